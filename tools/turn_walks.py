@@ -18,7 +18,7 @@ PLAIN = {"search rules"}
 
 
 def norm(name):
-    return name.replace("-", "_")
+    return name.replace("-", "_").lower()
 
 
 def read(path):
@@ -84,24 +84,36 @@ class Names:
         self.of, self.params = of, params
         self.stem = of["stem"]
         self.needs = {norm(old): new for old, new in of["needs"]}
-        self.order = [new for _, new in of["needs"]]
+        self.asked_at = {new: norm(at[0]) for (_, new), at in zip(of["needs"], of["asked_at"])}
         self.settled = {norm(it) for it in of["settled"]}
         self.places = {norm(p[0]): new for p, new in zip(of["places"], of["places_by_name"])}
-        self.fields, self.calls = collections.defaultdict(list), {}
-        for p in of["places"]:
-            old, new = p[2]
-            if old and new not in self.fields[norm(old)]:
-                self.fields[norm(old)].append(new)
-            if p[3]:
-                self.calls[norm(old)] = p[3]
-        self.arms = {}
-        for arm in of["arms"]:
-            for new, first, rest in arm[2] if arm else []:
-                if rest and not new.endswith("-own"):
-                    self.arms[(norm(first), *rest)] = (arm[0], new)
+        self.at = {norm(p[0]): (p, arm) for p, arm in zip(of["places"], of["arms"])}
         self.typed = {norm(step): var for at in of["typed"] for var, step in at}
         self.loops = [(norm(l[0][0]), l[0][1], l[1], c) for l, c in zip(of["loops"], of["changed"])]
         self.pre = of["pre"]["fields"] if of["pre"] else None
+        self.is_cycle = False
+        self.stand(None)
+
+    def stand(self, place):
+        """Reads names as they are at a place, or else anywhere."""
+        self.fields, self.calls, self.arms, self.tests = {}, {}, {}, {}
+        chain, seen = [], set()
+        while place and norm(place) in self.at and norm(place) not in seen:
+            seen.add(norm(place))
+            chain.append(norm(place))
+            place = self.at[norm(place)][0][1]
+        for name in [*chain, *[it for it in self.at if it not in seen]]:
+            p, arm = self.at[name]
+            old, new = p[2]
+            if old and norm(old) not in self.fields:
+                self.fields[norm(old)] = new
+                if p[3]:
+                    self.calls[norm(old)] = p[3]
+                for was, now in p[4]:
+                    self.tests[(norm(old), was)] = now
+            for new, first, rest in arm[2] if arm else []:
+                if rest and not new.endswith("-own"):
+                    self.arms.setdefault((norm(first), *rest), (arm[0], new))
 
     def goal(self, need):
         need = norm(need)
@@ -132,11 +144,13 @@ class Names:
                 return [arm, new, *comps[n:]]
         if first in self.typed and comps[1:2] == ["given"]:
             return ["type_inv", self.typed[first], *comps[2:]]
-        news = self.fields.get(first)
-        if news:
-            comps = [news[0], *comps[1:]]
+        new = self.fields.get(first)
+        if new:
+            comps = [new, *comps[1:]]
             if len(comps) > 1 and comps[1] == "res":
                 comps[1] = "result"
+            if len(comps) > 1 and (first, comps[1]) in self.tests:
+                comps[1] = self.tests[(first, comps[1])]
             if len(comps) > 2 and comps[1] == "new" and first in self.calls:
                 at = 2
                 while at < len(comps) and comps[at] == "1":
@@ -145,6 +159,11 @@ class Names:
                 if at < len(comps) and comps[at] == "0" and of and at - 2 < len(of):
                     comps = [*comps[:2], of[at - 2], *comps[at + 1 :]]
             return comps
+        if first == "requires" and self.is_cycle and len(comps) > 1:
+            if comps[1] == "0":
+                return ["decreases", *comps[2:]]
+            if comps[1] == "1":
+                comps = [comps[0], *comps[2:]]
         if first == "requires" and self.pre and len(comps) > 1 and comps[1].isdigit() and int(comps[1]) < len(self.pre):
             return ["requires", self.pre[int(comps[1])], *comps[2:]]
         return comps
@@ -172,13 +191,20 @@ def turn_paths(text, names, roots):
     def of_step(m):
         root, step = steps[m.group(1)]
         comps = names.path([step, *m.group(2).split(".")[1:]])
-        if comps[0] == names.fields[norm(step)][0]:
+        if comps[0] == names.fields[norm(step)]:
             return ".".join([m.group(1), *comps[1:]])
         return ".".join([root, *comps])
 
     text = pattern.sub(one, text)
     if steps:
         text = re.sub(r"(?<![\w.'-])(" + "|".join(map(re.escape, steps)) + r")((?:\." + WORD + r")+)", of_step, text)
+    asked = re.findall(r"let (" + WORD + r") = (?:" + "|".join(map(re.escape, roots)) + r")\.requires in\b", text)
+    if names.is_cycle or names.pre:
+        for it in asked:
+            text = re.sub(r"(?<![\w.'-])" + re.escape(it) + r"((?:\." + WORD + r")+)", lambda m: ".".join([it, *names.path(["requires", *m.group(1).split(".")[1:]])[1:]]), text)
+    for test in ("true", "false"):
+        text = re.sub(r"\(not-" + test + r" _ ([^\s()]*\." + test + r")-raw\)", r"\1", text)
+        text = re.sub(r"not-" + test + r" _ ([^\s()]*\." + test + r")-raw", r"\1", text)
     return text
 
 
@@ -232,6 +258,8 @@ def turn_folder(crate, folder, members, params):
     is_cycle = "+" in os.path.basename(folder)
     answers, invariants, uses_all, notes = [], [], [], []
     source = params_of(crate)
+    for names in members.values():
+        names.is_cycle = is_cycle
     renamed = {}
     todo = []
     for file, text in texts:
@@ -298,6 +326,7 @@ def turn_folder(crate, folder, members, params):
             root = args[-1] if args else "c"
             if args and is_cycle and len(args) == 1:
                 args = ["t", *args]
+            names.stand(names.asked_at.get(d["goal"]))
             rest = turn_paths(rest, names, [root])
             text = comment + f"pub {new} : goal.{new}\n" + "".join(u + "\n" for u in d["unfolding"]) + " ".join([new, *args, "="]) + (" " if len(rest.strip()) < 100 and "\n" not in rest.strip() else "\n    ") + settle(rest.strip())
             answers.append(text)
@@ -313,9 +342,7 @@ def turn_folder(crate, folder, members, params):
             cm = re.match(re.escape(name) + r"((?: (?:" + WORD + r"))*?) =(?:\s|$)", body)
             args = cm.group(1).split()
             rest = body[cm.end() :]
-            still = [v for v, c in zip(live, changed) if not c]
-            moved = [v for v, c in zip(live, changed) if c]
-            want = [f"l.{v}" for v in still] + [f"l.initial.{v}" for v in moved] + [f"l.{v}" for v in moved]
+            want = [f"l.initial.{v}" if c else f"l.{v}" for v, c in zip(live, changed)] + [f"l.{v}" for v, c in zip(live, changed) if c]
             if len(args) != len(want):
                 notes.append(f"{name}: {args} for {want}")
             table = dict(zip(args, want))
@@ -355,9 +382,7 @@ def turn_folder(crate, folder, members, params):
             cm = re.match(re.escape(name) + r"((?: (?:" + WORD + r"))*?) =(?:\s|$)", body)
             args = cm.group(1).split()
             rest = body[cm.end() :]
-            still = [v for v, c in zip(live, changed) if not c]
-            moved = [v for v, c in zip(live, changed) if c]
-            want = [f"l.{v}" for v in still] + [f"l.initial.{v}" for v in moved] + [f"l.{v}" for v in moved]
+            want = [f"l.initial.{v}" if c else f"l.{v}" for v, c in zip(live, changed)] + [f"l.{v}" for v, c in zip(live, changed) if c]
             if len(args) != len(want):
                 notes.append(f"{name}: {args} for {want}")
             table = dict(zip(args, want))
@@ -365,13 +390,15 @@ def turn_folder(crate, folder, members, params):
             goal = f"{kind}-{names.stem}{new}"
             invariants.append(comment + f"abbrev pub {goal} : goal.{goal}\n{goal} l = " + rest.strip())
             continue
-        if re.search(r"(_spec|_member)$", name) or re.search(r"\bIn \d+ \S*kinds\.ps|_lts\.Claims|lts\.Claims", sig):
+        if re.search(r"[_-](spec|member)$", name) or re.search(r"\bIn \d+ \S*kinds\.ps|_lts\.Claims|lts\.Claims", sig):
             continue
         # a helper
         names = list(members.values())[0]
         sig2 = re.sub(r"(?<![\w.'-])(?:tie|" + "|".join(map(re.escape, lts)) + r")\.(" + WORD + r")", lambda w: "goal." + names.places.get(norm(w.group(1)), w.group(1)), sig) if lts or "tie." in sig else sig
         sig2 = re.sub(r"\((" + WORD + r" : goal\." + WORD + r") (?:[^()]|\([^()]*\))*\)", r"(\1)", sig2)
         roots = re.findall(r"\((" + WORD + r") : goal\.", sig2)
+        at = re.search(r"(?:tie|" + "|".join(map(re.escape, lts)) + r")\.(" + WORD + r")", sig) if lts or "tie." in sig else None
+        names.stand(at.group(1) if at else None)
         sig2 = turn_paths(sig2, names, roots) if roots else sig2
         if sig2 != sig:
             notes.append(f"helper {name}: {sig2.strip()[:100]}")

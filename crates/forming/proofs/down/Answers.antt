@@ -1,5 +1,4 @@
 use native.Mathlib.Omega.{arith}
-use borrow.Author.Tests.{not-false}
 use Rattle.forming.proofs.Downward.{reached, take_asked, no_match, enter_asked, match_told, open_asked, repeat_asked, repeated, none_less, match_less, open_less}
 use Rattle.forming.proofs.down.Goals as goal
 
@@ -28,7 +27,7 @@ returns-then-not-is_repeat c =
 
 pub returns-else-not-is_repeat : goal.returns-else-not-is_repeat
 returns-else-not-is_repeat c =
-    record { right = λ t d. repeated _ _ _ _ _ _ _ _ _ _ _ _ _ _ t (open_asked _ _ _ _ _ _ _ _ _ _ _ _ _ t d _ _ c.take_leaves-left.ensures c.if-left.true (omega arith)) (c.is_repeat.ensures (not-false _ c.if-not-is_repeat.false)); less = none_less _ _ _ _ }
+    record { right = λ t d. repeated _ _ _ _ _ _ _ _ _ _ _ _ _ _ t (open_asked _ _ _ _ _ _ _ _ _ _ _ _ _ t d _ _ c.take_leaves-left.ensures c.if-left.true (omega arith)) (c.is_repeat.ensures c.if-not-is_repeat.false); less = none_less _ _ _ _ }
 
 pub returns-else-left : goal.returns-else-left
 returns-else-left c =

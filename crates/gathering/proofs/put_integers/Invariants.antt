@@ -5,7 +5,7 @@ use Rattle.gathering.specs.Consecutive.{PutIntegers}
 use Rattle.gathering.proofs.put_integers.Given as goal
 
 abbrev pub invariant-loop-i : goal.invariant-loop-i
-invariant-loop-i l = (l.i ≤ l.initial.s) × PutIntegers l.at l.s l.from (to_z w32 l.n) l.i
+invariant-loop-i l = (l.i ≤ l.n) × PutIntegers l.initial.s l.s l.at (to_z w32 l.from) l.i
 
 abbrev pub decreases-loop-i : goal.decreases-loop-i
-decreases-loop-i l = l.initial.s - l.i
+decreases-loop-i l = l.n - l.i

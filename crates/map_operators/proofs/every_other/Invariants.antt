@@ -5,7 +5,7 @@ use Rattle.map_operators.proofs.Halving.{Half}
 use Rattle.map_operators.proofs.every_other.Given as goal
 
 abbrev pub invariant-loop-p : goal.invariant-loop-p
-invariant-loop-p l = Packing map (Half l.end l.wanted) l.base l.s l.keys l.initial.s l.p l.q
+invariant-loop-p l = Packing map (Half l.keys l.wanted) l.initial.s l.s l.base l.end l.p l.q
 
 abbrev pub decreases-loop-p : goal.decreases-loop-p
-decreases-loop-p l = l.initial.s - l.p
+decreases-loop-p l = l.end - l.p

@@ -41,21 +41,3 @@ overflow_add-result-2 t c = omega (arith, length_large c.args.n c.if-n-lt10.fals
 pub returns : goal.returns
 returns t c =
     wrote_as (sym (decimal_large c.args.n c.if-n-lt10.false)) (wrote_byte (48 + c.args.n % 10) c.put_number-last.ensures)
-
-+put-number-spec : {M : Type 1} → statement M
-+put-number-spec = close μ_put_number λ t. put_number_lts.spec (put_number_calls t)
-    (put_number_at t)
-    put_number.Post
-    (overflow_cast-out t)
-    (overflow_add-out t)
-    (bounds-out-at t)
-    (overflow_add-result t)
-    (shape_of-out-then-n-lt10 t)
-    (returns-then-n-lt10 t)
-    (put_number-last-requires t)
-    (overflow_cast-out-2 t)
-    (overflow_add-out-2 t)
-    (bounds-out-last t)
-    (overflow_add-result-2 t)
-    (shape_of-out t)
-    (returns t)

@@ -6,13 +6,14 @@ use Rattle.print.specs.Contract.{following}
 use Rattle.print.proofs.following.Goals as goal
 
 pub returns-then-not-is_map : goal.returns-then-not-is_map
-returns-then-not-is_map c = sym (ap (λ (b : Bool). following b c.args.separator) (not-true c.args.is_map c.if-not-is_map.true))
+returns-then-not-is_map c =
+    sym (ap (λ (b : Bool). following b c.args.separator) (not-true c.args.is_map c.if-not-is_map.true-raw))
 
 pub returns-in-Nothing : goal.returns-in-Nothing
-returns-in-Nothing c = sym (ap₂ following (not-false c.args.is_map c.if-not-is_map.false) c.in-Nothing.is)
+returns-in-Nothing c = sym (ap₂ following (not-false c.args.is_map c.if-not-is_map.false-raw) c.in-Nothing.is)
 
 pub returns-in-Comma : goal.returns-in-Comma
-returns-in-Comma c = sym (ap₂ following (not-false c.args.is_map c.if-not-is_map.false) c.in-Comma.is)
+returns-in-Comma c = sym (ap₂ following (not-false c.args.is_map c.if-not-is_map.false-raw) c.in-Comma.is)
 
 pub returns-in-Arrow : goal.returns-in-Arrow
-returns-in-Arrow c = sym (ap₂ following (not-false c.args.is_map c.if-not-is_map.false) c.in-Arrow.is)
+returns-in-Arrow c = sym (ap₂ following (not-false c.args.is_map c.if-not-is_map.false-raw) c.in-Arrow.is)

@@ -4,7 +4,7 @@ use Rattle.print.proofs.Writing.{Copying}
 use Rattle.print.proofs.put_bytes.Given as goal
 
 abbrev pub invariant-loop-i : goal.invariant-loop-i
-invariant-loop-i l = Copying l.bytes l.at l.initial.out l.out l.i
+invariant-loop-i l = Copying l.bytes l.initial.out l.at l.out l.i
 
 abbrev pub decreases-loop-i : goal.decreases-loop-i
 decreases-loop-i l = length l.bytes - l.i

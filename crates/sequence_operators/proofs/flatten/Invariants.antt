@@ -3,7 +3,7 @@ use Rattle.sequence_operators.proofs.Flattening.{Flattening}
 use Rattle.sequence_operators.proofs.flatten.Given as goal
 
 abbrev pub invariant-loop-p : goal.invariant-loop-p
-invariant-loop-p l = Flattening l.base l.s l.end l.initial.s l.p l.q
+invariant-loop-p l = Flattening l.initial.s l.s l.base l.end l.p l.q
 
 abbrev pub decreases-loop-p : goal.decreases-loop-p
-decreases-loop-p l = l.initial.s - l.p
+decreases-loop-p l = l.end - l.p

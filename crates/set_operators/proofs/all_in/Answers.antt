@@ -1,7 +1,6 @@
 -- `set_operators::all_in` meets its contract: the answer from here on is the answer from the start on.
 use Prim.Native.Nat.{◌-◌}
 use native.Mathlib.Omega.{arith}
-use borrow.Author.Tests.{not-true, not-false}
 use Rattle.values.proofs.Records.{holds}
 use Rattle.set_operators.proofs.Testing.{test_start, test_fails, test_on, test_end, in_set, in_set_lem}
 use Rattle.gathering.proofs.Walks.{walked_first}
@@ -24,7 +23,7 @@ contains-requires c =
 
 pub returns-then-not-contains : goal.returns-then-not-contains
 returns-then-not-contains c =
-    λ vs ws h a. test_fails (in_set c.args.s.now c.args.at) c.loop-p.invariant (omega arith) (ws, a) (in_set_lem c.contains.ensures (not-true _ c.if-not-contains.true) (ws, a)) vs h
+    λ vs ws h a. test_fails (in_set c.args.s.now c.args.at) c.loop-p.invariant (omega arith) (ws, a) (in_set_lem c.contains.ensures c.if-not-contains.true (ws, a)) vs h
 
 pub loop-p-smaller : goal.loop-p-smaller
 loop-p-smaller c =
@@ -32,7 +31,7 @@ loop-p-smaller c =
 
 pub loop-p-preserved : goal.loop-p-preserved
 loop-p-preserved c =
-    test_on (in_set c.args.s.now c.args.at) c.loop-p.invariant (omega arith) (in_set_lem c.contains.ensures (not-false _ c.if-not-contains.false)) _ c.length_of.ensures.is
+    test_on (in_set c.args.s.now c.args.at) c.loop-p.invariant (omega arith) (in_set_lem c.contains.ensures c.if-not-contains.false) _ c.length_of.ensures.is
 
 pub returns : goal.returns
 returns c = λ vs ws h a. test_end (in_set c.args.s.now c.args.at) c.loop-p.invariant (omega arith) (ws, a) vs h

@@ -1,41 +1,40 @@
 use Prim.Native.Nat.{◌-◌}
 use native.Mathlib.Omega.{arith}
-use borrow.Author.Tests.{not-true, not-false}
 use Rattle.tables.specs.Laws.Kinds.{composed_told}
 use Rattle.matching.proofs.Records.{has_operand, operand_readable}
 use Rattle.splitting.proofs.Telling.{split_told, split_start, split_leaf, split_here, split_found, split_next, split_none}
 use Rattle.splitting.proofs.+has_split.Goals as goal
 
 pub kind-k-requires : goal.kind-k-requires
-kind-k-requires t c = c.requires.1.here
+kind-k-requires t c = c.requires.here
 
 pub is_composed-requires : goal.is_composed-requires
 is_composed-requires t c = c.kind-k.ensures.1
 
 pub returns-then-not-is_composed : goal.returns-then-not-is_composed
 returns-then-not-is_composed t c =
-    split_leaf _ _ _ c.requires.1 (composed_told c.kind-k.ensures.0 c.is_composed.ensures (not-true _ c.if-not-is_composed.true))
+    split_leaf _ _ _ c.requires (composed_told c.kind-k.ensures.0 c.is_composed.ensures c.if-not-is_composed.true)
 
 pub returns-then-is_split : goal.returns-then-is_split
 returns-then-is_split t c =
-    split_here _ _ _ c.requires.1 (composed_told c.kind-k.ensures.0 c.is_composed.ensures (not-false _ c.if-not-is_composed.false)) (split_told c.kind-k.ensures.0 c.is_split.ensures c.if-is_split.true)
+    split_here _ _ _ c.requires (composed_told c.kind-k.ensures.0 c.is_composed.ensures c.if-not-is_composed.false) (split_told c.kind-k.ensures.0 c.is_split.ensures c.if-is_split.true)
 
 pub operand_count-n-requires : goal.operand_count-n-requires
-operand_count-n-requires t c = c.requires.1.here
+operand_count-n-requires t c = c.requires.here
 
 pub loop-i-init : goal.loop-i-init
 loop-i-init t c = split_start _ _
 
 pub operand-q-requires : goal.operand-q-requires
-operand-q-requires t c = has_operand _ _ _ c.requires.1 _ (omega (arith, c.operand_count-n.ensures.0))
+operand-q-requires t c = has_operand _ _ _ c.requires _ (omega (arith, c.operand_count-n.ensures.0))
 
 pub has_split-has-requires : goal.has_split-has-requires
 has_split-has-requires t c =
-    let o = operand_readable _ _ _ c.requires.1 _ (omega (arith, c.operand_count-n.ensures.0)) _ c.operand-q.ensures.0 in (omega (arith, o.1), o.0)
+    let o = operand_readable _ _ _ c.requires _ (omega (arith, c.operand_count-n.ensures.0)) _ c.operand-q.ensures.0 in (omega (arith, o.1), o.0)
 
 pub returns-then-has : goal.returns-then-has
 returns-then-has t c =
-    split_found _ _ _ c.requires.1 (composed_told c.kind-k.ensures.0 c.is_composed.ensures (not-false _ c.if-not-is_composed.false)) (split_told c.kind-k.ensures.0 c.is_split.ensures c.if-is_split.false) _ _ (omega (arith, c.operand_count-n.ensures.0)) c.operand-q.ensures.0 _ c.has_split-has.ensures c.if-has.true
+    split_found _ _ _ c.requires (composed_told c.kind-k.ensures.0 c.is_composed.ensures c.if-not-is_composed.false) (split_told c.kind-k.ensures.0 c.is_split.ensures c.if-is_split.false) _ _ (omega (arith, c.operand_count-n.ensures.0)) c.operand-q.ensures.0 _ c.has_split-has.ensures c.if-has.true
 
 pub overflow_add-i : goal.overflow_add-i
 overflow_add-i t c = omega (arith, c.operand_count-n.ensures.1)
@@ -49,25 +48,4 @@ loop-i-preserved t c =
 
 pub returns : goal.returns
 returns t c =
-    split_none _ _ _ c.requires.1 (composed_told c.kind-k.ensures.0 c.is_composed.ensures (not-false _ c.if-not-is_composed.false)) (split_told c.kind-k.ensures.0 c.is_split.ensures c.if-is_split.false) c.loop-i.i c.loop-i.invariant (omega (arith, c.operand_count-n.ensures.0))
-
-+has-split-spec : {M : Type 1} → statement M
-+has-split-spec = close μ_has_split λ t. has_split_lts.spec (has_split_calls t)
-    (has_split_at t)
-    has_split.Post
-    has_split_Inv_loop
-    has_split_μ_loop
-    (kind-k-requires t)
-    (is_composed-requires t)
-    (returns-then-not-is_composed t)
-    (is_split-requires t)
-    (returns-then-is_split t)
-    (operand_count-n-requires t)
-    (loop-i-init t)
-    (operand-q-requires t)
-    (has_split-has-requires t)
-    (returns-then-has t)
-    (overflow_add-i t)
-    (loop-i-smaller t)
-    (loop-i-preserved t)
-    (returns t)
+    split_none _ _ _ c.requires (composed_told c.kind-k.ensures.0 c.is_composed.ensures c.if-not-is_composed.false) (split_told c.kind-k.ensures.0 c.is_split.ensures c.if-is_split.false) c.loop-i.i c.loop-i.invariant (omega (arith, c.operand_count-n.ensures.0))

@@ -1,6 +1,5 @@
-use Prim.Native.Nat.{◌+◌, ◌-◌}
+use Prim.Native.Nat.{◌-◌}
 use native.Mathlib.Omega.{arith}
-use borrow.Author.Tests.{not-true, not-false}
 use mathlib.Core.Path.{ap, ◌∙◌}
 use mathlib.Core.Logic.{⊎_elim}
 use Rattle.tables.specs.Record.{is_composed}
@@ -10,32 +9,32 @@ use Rattle.splitting.proofs.Telling.{wide_leaf, wide_unfit, wide_large, ways_hel
 use Rattle.splitting.proofs.+in_way_in_ways_too_large.Goals as goal
 
 pub in_way-kind-k-requires : goal.in_way-kind-k-requires
-in_way-kind-k-requires t c = c.requires.1.0.here
+in_way-kind-k-requires t c = c.requires.0.here
 
 pub in_way-operand_count-n-requires : goal.in_way-operand_count-n-requires
-in_way-operand_count-n-requires t c = c.requires.1.0.here
+in_way-operand_count-n-requires t c = c.requires.0.here
 
 pub in_way-loop-i-init : goal.in_way-loop-i-init
-in_way-loop-i-init t c = parts_start _ _ _ c.requires.1.0 _ _ _ c.requires.1.1
+in_way-loop-i-init t c = parts_start _ _ _ c.requires.0 _ _ _ c.requires.1
 
 pub in_way-operand-q-requires : goal.in_way-operand-q-requires
-in_way-operand-q-requires t c = has_operand _ _ _ c.requires.1.0 _ (omega (arith, c.operand_count-n.ensures.0))
+in_way-operand-q-requires t c = has_operand _ _ _ c.requires.0 _ (omega (arith, c.operand_count-n.ensures.0))
 
 pub in_way-has_split-split-requires : goal.in_way-has_split-split-requires
 in_way-has_split-split-requires t c =
-    (operand_readable _ _ _ c.requires.1.0 _ (omega (arith, c.operand_count-n.ensures.0)) _ c.operand-q.ensures.0).0
+    (operand_readable _ _ _ c.requires.0 _ (omega (arith, c.operand_count-n.ensures.0)) _ c.operand-q.ensures.0).0
 
 pub in_way-piece-a-requires : goal.in_way-piece-a-requires
 in_way-piece-a-requires t c =
-    piece_asked _ _ _ c.requires.1.0 _ _ _ c.requires.1.1 _ c.loop-i.invariant (omega (arith, c.operand_count-n.ensures.0)) _ _ c.kind-k.ensures.0 c.operand_count-n.ensures.0
+    piece_asked _ _ _ c.requires.0 _ _ _ c.requires.1 _ c.loop-i.invariant (omega (arith, c.operand_count-n.ensures.0)) _ _ c.kind-k.ensures.0 c.operand_count-n.ensures.0
 
 pub in_way-too_large-wide-requires : goal.in_way-too_large-wide-requires
 in_way-too_large-wide-requires t c =
-    let o = operand_readable _ _ _ c.requires.1.0 _ (omega (arith, c.operand_count-n.ensures.0)) _ c.operand-q.ensures.0 in (omega (arith, o.1), (o.0, piece_held _ _ _ c.requires.1.0 _ _ _ c.requires.1.1 _ c.loop-i.invariant (omega (arith, c.operand_count-n.ensures.0)) _ _ c.kind-k.ensures.0 c.operand_count-n.ensures.0 _ c.piece-a.ensures, c.requires.1.1.short))
+    let o = operand_readable _ _ _ c.requires.0 _ (omega (arith, c.operand_count-n.ensures.0)) _ c.operand-q.ensures.0 in (omega (arith, o.1), (o.0, piece_held _ _ _ c.requires.0 _ _ _ c.requires.1 _ c.loop-i.invariant (omega (arith, c.operand_count-n.ensures.0)) _ _ c.kind-k.ensures.0 c.operand_count-n.ensures.0 _ c.piece-a.ensures, c.requires.1.short))
 
 pub in_way-returns-then-wide : goal.in_way-returns-then-wide
 in_way-returns-then-wide t c =
-    parts_found _ _ _ c.requires.1.0 _ _ _ c.requires.1.1 _ c.loop-i.invariant (omega (arith, c.operand_count-n.ensures.0)) _ _ c.kind-k.ensures.0 c.operand_count-n.ensures.0 _ c.piece-a.ensures _ c.operand-q.ensures.0 _ c.too_large-wide.ensures c.if-wide.true
+    parts_found _ _ _ c.requires.0 _ _ _ c.requires.1 _ c.loop-i.invariant (omega (arith, c.operand_count-n.ensures.0)) _ _ c.kind-k.ensures.0 c.operand_count-n.ensures.0 _ c.piece-a.ensures _ c.operand-q.ensures.0 _ c.too_large-wide.ensures c.if-wide.true
 
 pub in_way-overflow_add-i : goal.in_way-overflow_add-i
 in_way-overflow_add-i t c = omega (arith, c.operand_count-n.ensures.1)
@@ -45,30 +44,30 @@ in_way-loop-i-smaller t c = omega arith
 
 pub in_way-loop-i-preserved : goal.in_way-loop-i-preserved
 in_way-loop-i-preserved t c =
-    ⊎_elim (λ w. parts_next _ _ _ c.requires.1.0 _ _ _ c.requires.1.1 _ c.loop-i.invariant (omega (arith, c.operand_count-n.ensures.0)) _ _ c.kind-k.ensures.0 c.operand_count-n.ensures.0 _ w.1.ensures _ c.operand-q.ensures.0 _ w.2.ensures w.3.left)
-    (λ w. parts_past _ _ _ c.requires.1.0 _ _ _ c.requires.1.1 _ c.loop-i.invariant (omega (arith, c.operand_count-n.ensures.0)) _ c.operand-q.ensures.0 _ c.has_split-split.ensures w.left)
+    ⊎_elim (λ w. parts_next _ _ _ c.requires.0 _ _ _ c.requires.1 _ c.loop-i.invariant (omega (arith, c.operand_count-n.ensures.0)) _ _ c.kind-k.ensures.0 c.operand_count-n.ensures.0 _ w.1.ensures _ c.operand-q.ensures.0 _ w.2.ensures w.3.left)
+    (λ w. parts_past _ _ _ c.requires.0 _ _ _ c.requires.1 _ c.loop-i.invariant (omega (arith, c.operand_count-n.ensures.0)) _ c.operand-q.ensures.0 _ c.has_split-split.ensures w.left)
     c.if-split.branch
 
 pub in_way-returns : goal.in_way-returns
 in_way-returns t c =
-    parts_none _ _ _ c.requires.1.0 _ _ _ c.requires.1.1 c.loop-i.i c.loop-i.invariant (omega (arith, c.operand_count-n.ensures.0))
+    parts_none _ _ _ c.requires.0 _ _ _ c.requires.1 c.loop-i.i c.loop-i.invariant (omega (arith, c.operand_count-n.ensures.0))
 
 pub in_ways-is_shallow-easy-requires : goal.in_ways-is_shallow-easy-requires
-in_ways-is_shallow-easy-requires t c = c.requires.1.0
+in_ways-is_shallow-easy-requires t c = c.requires.0
 
 pub in_ways-returns-then-easy : goal.in_ways-returns-then-easy
-in_ways-returns-then-easy t c = ways_shallow _ _ _ c.requires.1.0 _ _ _ c.requires.1.1 _ c.is_shallow-easy.ensures c.if-easy.true
+in_ways-returns-then-easy t c = ways_shallow _ _ _ c.requires.0 _ _ _ c.requires.1 _ c.is_shallow-easy.ensures c.if-easy.true
 
 pub in_ways-loop-d-init : goal.in_ways-loop-d-init
-in_ways-loop-d-init t c = ways_start _ _ _ c.requires.1.0 _ _ _ c.requires.1.1
+in_ways-loop-d-init t c = ways_start _ _ _ c.requires.0 _ _ _ c.requires.1
 
 pub in_ways-in_way-wide-requires : goal.in_ways-in_way-wide-requires
 in_ways-in_way-wide-requires t c =
-    (omega arith, (c.requires.1.0, way_held _ _ _ c.requires.1.0 _ _ _ c.requires.1.1 _ c.loop-d.invariant (omega arith)))
+    (omega arith, (c.requires.0, way_held _ _ _ c.requires.0 _ _ _ c.requires.1 _ c.loop-d.invariant (omega arith)))
 
 pub in_ways-returns-then-wide : goal.in_ways-returns-then-wide
 in_ways-returns-then-wide t c =
-    ways_found _ _ _ c.requires.1.0 _ _ _ c.requires.1.1 _ c.loop-d.invariant (omega arith) _ c.in_way-wide.ensures c.if-wide.true
+    ways_found _ _ _ c.requires.0 _ _ _ c.requires.1 _ c.loop-d.invariant (omega arith) _ c.in_way-wide.ensures c.if-wide.true
 
 pub in_ways-overflow_add-d : goal.in_ways-overflow_add-d
 in_ways-overflow_add-d t c = omega arith
@@ -78,88 +77,40 @@ in_ways-loop-d-smaller t c = omega arith
 
 pub in_ways-loop-d-preserved : goal.in_ways-loop-d-preserved
 in_ways-loop-d-preserved t c =
-    ways_next _ _ _ c.requires.1.0 _ _ _ c.requires.1.1 _ c.loop-d.invariant (omega arith) _ c.in_way-wide.ensures c.if-wide.false
+    ways_next _ _ _ c.requires.0 _ _ _ c.requires.1 _ c.loop-d.invariant (omega arith) _ c.in_way-wide.ensures c.if-wide.false
 
 pub in_ways-returns : goal.in_ways-returns
-in_ways-returns t c = ways_none _ _ _ c.requires.1.0 _ _ _ c.requires.1.1 c.loop-d.d c.loop-d.invariant (omega arith)
+in_ways-returns t c = ways_none _ _ _ c.requires.0 _ _ _ c.requires.1 c.loop-d.d c.loop-d.invariant (omega arith)
 
 pub too_large-kind-k-requires : goal.too_large-kind-k-requires
-too_large-kind-k-requires t c = c.requires.1.0.here
+too_large-kind-k-requires t c = c.requires.0.here
 
 pub too_large-is_composed-requires : goal.too_large-is_composed-requires
 too_large-is_composed-requires t c = c.kind-k.ensures.1
 
 pub too_large-returns-then-not-is_composed : goal.too_large-returns-then-not-is_composed
 too_large-returns-then-not-is_composed t c =
-    wide_leaf _ _ _ c.requires.1.0 _ _ (composed_told c.kind-k.ensures.0 c.is_composed.ensures (not-true _ c.if-not-is_composed.true))
+    wide_leaf _ _ _ c.requires.0 _ _ (composed_told c.kind-k.ensures.0 c.is_composed.ensures c.if-not-is_composed.true)
 
 pub too_large-operand_count-n-requires : goal.too_large-operand_count-n-requires
-too_large-operand_count-n-requires t c = c.requires.1.0.here
+too_large-operand_count-n-requires t c = c.requires.0.here
 
 pub too_large-meet-m-requires : goal.too_large-meet-m-requires
 too_large-meet-m-requires t c =
-    let composed = (composed_told c.kind-k.ensures.0 c.is_composed.ensures (not-false _ c.if-not-is_composed.false)) in (ap is_composed c.kind-k.ensures.0 ∙ composed, count_fits _ _ _ c.requires.1.0 composed _ _ c.kind-k.ensures.0 c.operand_count-n.ensures.0, c.requires.1.1)
+    let composed = (composed_told c.kind-k.ensures.0 c.is_composed.ensures c.if-not-is_composed.false) in (ap is_composed c.kind-k.ensures.0 ∙ composed, count_fits _ _ _ c.requires.0 composed _ _ c.kind-k.ensures.0 c.operand_count-n.ensures.0, c.requires.1)
 
 pub too_large-in_ways-requires : goal.too_large-in_ways-requires
 too_large-in_ways-requires t c =
-    (omega arith, (c.requires.1.0, ways_held _ _ _ c.requires.1.0 _ _ (composed_told c.kind-k.ensures.0 c.is_composed.ensures (not-false _ c.if-not-is_composed.false)) c.meet-m.result (recast_meets _ _ _ _ c.meet-m.result c.kind-k.ensures.0 c.operand_count-n.ensures.0 c.meet-m.ensures) _ c.in-Ways.is c.requires.1.1 c.requires.1.2))
+    (omega arith, (c.requires.0, ways_held _ _ _ c.requires.0 _ _ (composed_told c.kind-k.ensures.0 c.is_composed.ensures c.if-not-is_composed.false) c.meet-m.result (recast_meets _ _ _ _ c.meet-m.result c.kind-k.ensures.0 c.operand_count-n.ensures.0 c.meet-m.ensures) _ c.in-Ways.is c.requires.1 c.requires.2))
 
 pub too_large-returns-in-Unfit : goal.too_large-returns-in-Unfit
 too_large-returns-in-Unfit t c =
-    wide_unfit _ _ _ c.requires.1.0 _ _ (composed_told c.kind-k.ensures.0 c.is_composed.ensures (not-false _ c.if-not-is_composed.false)) c.meet-m.result (recast_meets _ _ _ _ c.meet-m.result c.kind-k.ensures.0 c.operand_count-n.ensures.0 c.meet-m.ensures) c.in-Unfit.is
+    wide_unfit _ _ _ c.requires.0 _ _ (composed_told c.kind-k.ensures.0 c.is_composed.ensures c.if-not-is_composed.false) c.meet-m.result (recast_meets _ _ _ _ c.meet-m.result c.kind-k.ensures.0 c.operand_count-n.ensures.0 c.meet-m.ensures) c.in-Unfit.is
 
 pub too_large-returns-in-Large : goal.too_large-returns-in-Large
 too_large-returns-in-Large t c =
-    wide_large _ _ _ c.requires.1.0 _ _ (composed_told c.kind-k.ensures.0 c.is_composed.ensures (not-false _ c.if-not-is_composed.false)) c.meet-m.result (recast_meets _ _ _ _ c.meet-m.result c.kind-k.ensures.0 c.operand_count-n.ensures.0 c.meet-m.ensures) c.in-Large.is
+    wide_large _ _ _ c.requires.0 _ _ (composed_told c.kind-k.ensures.0 c.is_composed.ensures c.if-not-is_composed.false) c.meet-m.result (recast_meets _ _ _ _ c.meet-m.result c.kind-k.ensures.0 c.operand_count-n.ensures.0 c.meet-m.ensures) c.in-Large.is
 
 pub too_large-returns-in-Ways : goal.too_large-returns-in-Ways
 too_large-returns-in-Ways t c =
-    wide_ways_lem _ _ _ c.requires.1.0 _ _ (composed_told c.kind-k.ensures.0 c.is_composed.ensures (not-false _ c.if-not-is_composed.false)) c.meet-m.result (recast_meets _ _ _ _ c.meet-m.result c.kind-k.ensures.0 c.operand_count-n.ensures.0 c.meet-m.ensures) _ c.in-Ways.is _ c.in_ways.ensures
-
-+in-way-in-ways-too-large-spec : {M : Type 1} → statement M
-+in-way-in-ways-too-large-spec = close μ_in_way μ_in_ways μ_too_large (λ t. in_way_lts.spec (in_way_calls t)
-    (in_way_at t)
-    in_way.Post
-    in_way_Inv_loop
-    in_way_μ_loop
-    (in_way-kind-k-requires t)
-    (in_way-operand_count-n-requires t)
-    (in_way-loop-i-init t)
-    (in_way-operand-q-requires t)
-    (in_way-has_split-split-requires t)
-    (in_way-piece-a-requires t)
-    (in_way-too_large-wide-requires t)
-    (in_way-returns-then-wide t)
-    (in_way-overflow_add-i t)
-    (in_way-loop-i-smaller t)
-    (in_way-loop-i-preserved t)
-    (in_way-returns t))
-    (λ t. in_ways_lts.spec (in_ways_calls t)
-    (in_ways_at t)
-    in_ways.Post
-    in_ways_Inv_loop
-    in_ways_μ_loop
-    (in_ways-is_shallow-easy-requires t)
-    (in_ways-returns-then-easy t)
-    (in_ways-loop-d-init t)
-    (in_ways-in_way-wide-requires t)
-    (in_ways-returns-then-wide t)
-    (in_ways-overflow_add-d t)
-    (in_ways-loop-d-smaller t)
-    (in_ways-loop-d-preserved t)
-    (in_ways-returns t))
-    λ t. too_large_lts.spec (too_large_calls t)
-    (too_large_at t)
-    too_large.Post
-    (too_large-kind-k-requires t)
-    (too_large-is_composed-requires t)
-    (too_large-returns-then-not-is_composed t)
-    (too_large-operand_count-n-requires t)
-    (too_large-meet-m-requires t)
-    (too_large-enum_told-1 t)
-    (too_large-enum_told-in-Large t)
-    (too_large-enum_known-m t)
-    (too_large-in_ways-requires t)
-    (too_large-returns-in-Unfit t)
-    (too_large-returns-in-Large t)
-    (too_large-returns-in-Ways t)
+    wide_ways_lem _ _ _ c.requires.0 _ _ (composed_told c.kind-k.ensures.0 c.is_composed.ensures c.if-not-is_composed.false) c.meet-m.result (recast_meets _ _ _ _ c.meet-m.result c.kind-k.ensures.0 c.operand_count-n.ensures.0 c.meet-m.ensures) _ c.in-Ways.is _ c.in_ways.ensures

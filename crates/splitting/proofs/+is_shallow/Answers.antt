@@ -1,54 +1,38 @@
 use native.Mathlib.Omega.{arith}
-use borrow.Author.Tests.{not-true, not-false}
 use Rattle.matching.proofs.Records.{has_operand, operand_readable}
 use Rattle.splitting.proofs.Telling.{split_told, shallow_no_split, split_two, shallow_not, shallow_both}
 use Rattle.splitting.proofs.+is_shallow.Goals as goal
 
 pub kind-k-requires : goal.kind-k-requires
-kind-k-requires t c = c.requires.1.here
+kind-k-requires t c = c.requires.here
 
 pub has_split-has-requires : goal.has_split-has-requires
-has_split-has-requires t c = c.requires.1
+has_split-has-requires t c = c.requires
 
 pub returns-then-not-is_split : goal.returns-then-not-is_split
 returns-then-not-is_split t c =
-    shallow_no_split _ _ _ c.requires.1 (split_told c.kind-k.ensures.0 c.is_split.ensures (not-true _ c.if-not-is_split.true)) _ c.has_split-has.ensures
+    shallow_no_split _ _ _ c.requires (split_told c.kind-k.ensures.0 c.is_split.ensures c.if-not-is_split.true) _ c.has_split-has.ensures
 
 pub operand-l-requires : goal.operand-l-requires
 operand-l-requires t c =
-    has_operand _ _ _ c.requires.1 0 (omega (arith, split_two _ _ _ c.requires.1 (split_told c.kind-k.ensures.0 c.is_split.ensures (not-false _ c.if-not-is_split.false))))
+    has_operand _ _ _ c.requires 0 (omega (arith, split_two _ _ _ c.requires (split_told c.kind-k.ensures.0 c.is_split.ensures c.if-not-is_split.false)))
 
 pub is_shallow-left-requires : goal.is_shallow-left-requires
 is_shallow-left-requires t c =
-    let o = operand_readable _ _ _ c.requires.1 0 (omega (arith, split_two _ _ _ c.requires.1 (split_told c.kind-k.ensures.0 c.is_split.ensures (not-false _ c.if-not-is_split.false)))) _ c.operand-l.ensures.0 in (omega (arith, o.1), o.0)
+    let o = operand_readable _ _ _ c.requires 0 (omega (arith, split_two _ _ _ c.requires (split_told c.kind-k.ensures.0 c.is_split.ensures c.if-not-is_split.false))) _ c.operand-l.ensures.0 in (omega (arith, o.1), o.0)
 
 pub returns-then-not-left : goal.returns-then-not-left
 returns-then-not-left t c =
-    shallow_not _ _ _ c.requires.1 (split_told c.kind-k.ensures.0 c.is_split.ensures (not-false _ c.if-not-is_split.false)) _ c.operand-l.ensures.0 _ c.is_shallow-left.ensures (not-true _ c.if-not-left.true)
+    shallow_not _ _ _ c.requires (split_told c.kind-k.ensures.0 c.is_split.ensures c.if-not-is_split.false) _ c.operand-l.ensures.0 _ c.is_shallow-left.ensures c.if-not-left.true
 
 pub operand-r-requires : goal.operand-r-requires
 operand-r-requires t c =
-    has_operand _ _ _ c.requires.1 1 (omega (arith, split_two _ _ _ c.requires.1 (split_told c.kind-k.ensures.0 c.is_split.ensures (not-false _ c.if-not-is_split.false))))
+    has_operand _ _ _ c.requires 1 (omega (arith, split_two _ _ _ c.requires (split_told c.kind-k.ensures.0 c.is_split.ensures c.if-not-is_split.false)))
 
 pub is_shallow-requires : goal.is_shallow-requires
 is_shallow-requires t c =
-    let o = operand_readable _ _ _ c.requires.1 1 (omega (arith, split_two _ _ _ c.requires.1 (split_told c.kind-k.ensures.0 c.is_split.ensures (not-false _ c.if-not-is_split.false)))) _ c.operand-r.ensures.0 in (omega (arith, o.1), o.0)
+    let o = operand_readable _ _ _ c.requires 1 (omega (arith, split_two _ _ _ c.requires (split_told c.kind-k.ensures.0 c.is_split.ensures c.if-not-is_split.false))) _ c.operand-r.ensures.0 in (omega (arith, o.1), o.0)
 
 pub returns : goal.returns
 returns t c =
-    shallow_both _ _ _ c.requires.1 (split_told c.kind-k.ensures.0 c.is_split.ensures (not-false _ c.if-not-is_split.false)) _ c.operand-l.ensures.0 _ c.is_shallow-left.ensures (not-false _ c.if-not-left.false) _ c.operand-r.ensures.0 _ c.is_shallow.ensures
-
-+is-shallow-spec : {M : Type 1} → statement M
-+is-shallow-spec = close μ_is_shallow λ t. is_shallow_lts.spec (is_shallow_calls t)
-    (is_shallow_at t)
-    is_shallow.Post
-    (kind-k-requires t)
-    (is_split-requires t)
-    (has_split-has-requires t)
-    (returns-then-not-is_split t)
-    (operand-l-requires t)
-    (is_shallow-left-requires t)
-    (returns-then-not-left t)
-    (operand-r-requires t)
-    (is_shallow-requires t)
-    (returns t)
+    shallow_both _ _ _ c.requires (split_told c.kind-k.ensures.0 c.is_split.ensures c.if-not-is_split.false) _ c.operand-l.ensures.0 _ c.is_shallow-left.ensures c.if-not-left.false _ c.operand-r.ensures.0 _ c.is_shallow.ensures

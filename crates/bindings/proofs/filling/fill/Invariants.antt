@@ -3,7 +3,7 @@ use Prim.Native.Nat.{◌-◌}
 use Rattle.bindings.proofs.filling.fill.Given as goal
 
 abbrev pub invariant-loop-j : goal.invariant-loop-j
-invariant-loop-j l = FillSoFar l.to l.s l.rows l.order l.c l.step l.j l.out
+invariant-loop-j l = FillSoFar l.initial.s l.s l.to l.rows l.order l.c l.j l.out
 
 abbrev pub decreases-loop-j : goal.decreases-loop-j
-decreases-loop-j l = l.step.count - l.j
+decreases-loop-j l = l.c.count - l.j

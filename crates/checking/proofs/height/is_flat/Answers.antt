@@ -2,7 +2,6 @@
 use mathlib.Core.Path.{◌≡◌, sym, ap, ◌∙◌}
 use Prim.Native.Nat.{ℕ, ◌-◌, ◌<◌, ◌≤◌}
 use native.Mathlib.Omega.{arith}
-use borrow.Author.Tests.{not-false}
 use lib.ListN.{length}
 use Rattle.prelude.proofs.Absurd.{never}
 use Rattle.prelude.proofs.Truth.{by_lower}
@@ -61,7 +60,7 @@ loop-i-smaller c = omega (arith, c.loop-i-test.true)
 pub loop-i-preserved : goal.loop-i-preserved
 loop-i-preserved c =
     low_more (records c.args.table.now) c.requires.clear c.args.r c.requires.here.within 1 c.loop-i.i c.operand_from-n.result c.operand_from-n.ensures.0 c.loop-i.invariant
-    (omega (arith, leaf_height (records c.args.table.now) c.requires.clear c.operand_from-n.result (is_within c) (fit_records c.args.table.now c.operand_from-n.result (is_within c)) (sym (c.is_leaf-leaf.ensures ∙ ap is_leaf c.kind.ensures.0) ∙ not-false _ c.if-not-leaf.false)))
+    (omega (arith, leaf_height (records c.args.table.now) c.requires.clear c.operand_from-n.result (is_within c) (fit_records c.args.table.now c.operand_from-n.result (is_within c)) (sym (c.is_leaf-leaf.ensures ∙ ap is_leaf c.kind.ensures.0) ∙ c.if-not-leaf.false)))
 
 -- There is room for two, where not only for one.
 two : (m : ℕ) → 0 < m → (m ≡ 1 → ⊥) → 2 ≤ m

@@ -2,7 +2,6 @@
 use mathlib.Core.Path.{sym, ap, ◌∙◌}
 use Prim.Native.Nat.{◌-◌}
 use native.Mathlib.Omega.{arith}
-use borrow.Author.Tests.{not-false}
 use Rattle.tables.specs.Record.{is_leaf}
 use Rattle.tables.specs.Accepted.{records}
 use Rattle.checking.proofs.Heights.{leaf_more}
@@ -28,7 +27,7 @@ loop-n-smaller c = omega (arith, c.loop-n-test.true)
 
 pub loop-n-preserved : goal.loop-n-preserved
 loop-n-preserved c =
-    leaf_more (records c.args.table.now) c.args.count c.loop-n.n c.loop-n.invariant c.loop-n-test.true (sym (c.is_Is_leaf.ensures ∙ ap is_leaf c.kind.ensures.0) ∙ not-false _ c.if-not-leaf.false)
+    leaf_more (records c.args.table.now) c.args.count c.loop-n.n c.loop-n.invariant c.loop-n-test.true (sym (c.is_Is_leaf.ensures ∙ ap is_leaf c.kind.ensures.0) ∙ c.if-not-leaf.false)
 
 pub returns : goal.returns
 returns c = c.loop-n.invariant

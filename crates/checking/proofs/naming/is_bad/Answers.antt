@@ -1,7 +1,6 @@
 -- By number, by sort, by mark.
 use Rattle.checking.proofs.Marks.{bad_high, bad_sort, bad_named, sort_is}
 use Rattle.tables.specs.Accepted.{records}
-use borrow.Author.Tests.{not-true, not-false}
 use native.Mathlib.Omega.{arith}
 use mathlib.Core.Path.{◌∙◌}
 use Rattle.checking.proofs.naming.is_bad.Goals as goal
@@ -22,11 +21,11 @@ kind-requires c =
 
 pub returns-then-not-sorted : goal.returns-then-not-sorted
 returns-then-not-sorted c =
-    bad_sort (records c.args.table.now) c.args.r c.args.i c.operand-n.result c.operand-n.ensures.0 c.if-r-n.false ((sort_is (records c.args.table.now) c.args.r c.args.i c.operand-n.result c.role.result c.kind.result c.is_of_sort-sorted.result c.role.ensures c.kind.ensures.0 c.is_of_sort-sorted.ensures) ∙ not-true _ c.if-not-sorted.true)
+    bad_sort (records c.args.table.now) c.args.r c.args.i c.operand-n.result c.operand-n.ensures.0 c.if-r-n.false ((sort_is (records c.args.table.now) c.args.r c.args.i c.operand-n.result c.role.result c.kind.result c.is_of_sort-sorted.result c.role.ensures c.kind.ensures.0 c.is_of_sort-sorted.ensures) ∙ c.if-not-sorted.true)
 
 pub is_marked-requires : goal.is_marked-requires
 is_marked-requires c = omega (arith, c.requires.operand.here.within, c.requires.operand.here.indexed.few)
 
 pub returns : goal.returns
 returns c =
-    c.is_marked.ensures ∙ c.requires.marked.is c.operand-n.result (omega (arith, c.requires.operand.here.within, c.requires.operand.here.indexed.few)) ∙ bad_named (records c.args.table.now) c.args.r c.args.i c.operand-n.result c.operand-n.ensures.0 c.if-r-n.false ((sort_is (records c.args.table.now) c.args.r c.args.i c.operand-n.result c.role.result c.kind.result c.is_of_sort-sorted.result c.role.ensures c.kind.ensures.0 c.is_of_sort-sorted.ensures) ∙ not-false _ c.if-not-sorted.false)
+    c.is_marked.ensures ∙ c.requires.marked.is c.operand-n.result (omega (arith, c.requires.operand.here.within, c.requires.operand.here.indexed.few)) ∙ bad_named (records c.args.table.now) c.args.r c.args.i c.operand-n.result c.operand-n.ensures.0 c.if-r-n.false ((sort_is (records c.args.table.now) c.args.r c.args.i c.operand-n.result c.role.result c.kind.result c.is_of_sort-sorted.result c.role.ensures c.kind.ensures.0 c.is_of_sort-sorted.ensures) ∙ c.if-not-sorted.false)

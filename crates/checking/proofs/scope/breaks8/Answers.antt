@@ -1,7 +1,6 @@
 -- The bits of the pattern and of what is around say it.
 use Rattle.checking.proofs.Faults.{let_be8, let8, other8, plain8, let_operand}
 use Rattle.tables.specs.Sheet.{pattern_of}
-use borrow.Author.Tests.{not-true, not-false}
 use Rattle.checking.proofs.Bits.{around_condition, held_loose}
 use Rattle.checking.specs.Scopes.{has_bit, around}
 use Rattle.tables.specs.Accepted.{records}
@@ -41,7 +40,7 @@ has-loose-requires c = omega arith
 
 pub returns-then-not-loose : goal.returns-then-not-loose
 returns-then-not-loose c =
-    plain8 (records c.args.table.now) c.args.r (sym c.kind-k.ensures.0 ∙ c.if-k-ne-LET.false) ((sym (c.has-loose.ensures ∙ ap (λ (m : ℕ). has_bit m 1) c.pattern_bits.ensures ∙ held_loose (records c.args.table.now) (pattern_of (records c.args.table.now) c.args.r))) ∙ not-true _ c.if-not-loose.true)
+    plain8 (records c.args.table.now) c.args.r (sym c.kind-k.ensures.0 ∙ c.if-k-ne-LET.false) ((sym (c.has-loose.ensures ∙ ap (λ (m : ℕ). has_bit m 1) c.pattern_bits.ensures ∙ held_loose (records c.args.table.now) (pattern_of (records c.args.table.now) c.args.r))) ∙ c.if-not-loose.true)
 
 pub offset_bounds-above-r-2 : goal.offset_bounds-above-r-2
 offset_bounds-above-r-2 c = omega (arith, c.requires.here.within, c.requires.here.indexed.few)
@@ -54,4 +53,4 @@ has-requires-2 c = omega arith
 
 pub returns : goal.returns
 returns c =
-    let8 (records c.args.table.now) c.args.r c.has-2.result (sym c.kind-k.ensures.0 ∙ c.if-k-ne-LET.false) ((sym (c.has-loose.ensures ∙ ap (λ (m : ℕ). has_bit m 1) c.pattern_bits.ensures ∙ held_loose (records c.args.table.now) (pattern_of (records c.args.table.now) c.args.r))) ∙ not-false _ c.if-not-loose.false) (c.has-2.ensures ∙ ap (λ (m : ℕ). has_bit m 0) (c.requires.around.is c.args.r c.requires.here.within (omega arith)) ∙ around_condition (records c.args.table.now) c.args.r)
+    let8 (records c.args.table.now) c.args.r c.has-2.result (sym c.kind-k.ensures.0 ∙ c.if-k-ne-LET.false) ((sym (c.has-loose.ensures ∙ ap (λ (m : ℕ). has_bit m 1) c.pattern_bits.ensures ∙ held_loose (records c.args.table.now) (pattern_of (records c.args.table.now) c.args.r))) ∙ c.if-not-loose.false) (c.has-2.ensures ∙ ap (λ (m : ℕ). has_bit m 0) (c.requires.around.is c.args.r c.requires.here.within (omega arith)) ∙ around_condition (records c.args.table.now) c.args.r)

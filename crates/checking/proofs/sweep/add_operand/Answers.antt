@@ -2,7 +2,7 @@
 use mathlib.Core.Path.{refl, sym, ap, ◌∙◌}
 use Prim.Native.Nat.{◌<◌}
 use native.Mathlib.Omega.{arith}
-use borrow.Author.Tests.{eq-eqb, ne_eqb, not-true, not-false}
+use borrow.Author.Tests.{eq-eqb, ne_eqb}
 use lib.ListN.{length, get_or}
 use Rattle.prelude.proofs.Absurd.{never}
 use Rattle.tables.specs.Accepted.{records}
@@ -24,7 +24,7 @@ is_named-named-requires c = record { indexed = c.requires.indexed; within = in_t
 
 pub returns-then-not-named : goal.returns-then-not-named
 returns-then-not-named c =
-    record { told = c.stop-then-not-named.ensures ∙ sym (rw (eq-eqb (get_or c.args.left.now c.args.n 0) (asked c.args.role) (c.if-left-n.false ∙ c.wanted.ensures), sym c.is_named-named.ensures ∙ not-true _ c.if-not-named.true)); added = λ e. never (sym c.stop-then-not-named.ensures ∙ e) }
+    record { told = c.stop-then-not-named.ensures ∙ sym (rw (eq-eqb (get_or c.args.left.now c.args.n 0) (asked c.args.role) (c.if-left-n.false ∙ c.wanted.ensures), sym c.is_named-named.ensures ∙ c.if-not-named.true)); added = λ e. never (sym c.stop-then-not-named.ensures ∙ e) }
 
 pub bounds-below-n : goal.bounds-below-n
 bounds-below-n c = omega (arith, in_table c, c.requires.indexed.few)
@@ -34,8 +34,8 @@ bounds-frees-n c = omega (arith, in_table c, c.requires.indexed.few)
 
 pub returns-then-not-fine : goal.returns-then-not-fine
 returns-then-not-fine c =
-    record { told = c.stop-then-not-fine.ensures ∙ sym (rw (eq-eqb (get_or c.args.left.now c.args.n 0) (asked c.args.role) (c.if-left-n.false ∙ c.wanted.ensures), sym c.is_named-named.ensures ∙ not-false _ c.if-not-named.false) (sym (ap (λ (h : Handed). h.fine) c.hand_on-handed.ensures) ∙ not-true _ c.if-not-fine.true)); added = λ e. never (sym c.stop-then-not-fine.ensures ∙ e) }
+    record { told = c.stop-then-not-fine.ensures ∙ sym (rw (eq-eqb (get_or c.args.left.now c.args.n 0) (asked c.args.role) (c.if-left-n.false ∙ c.wanted.ensures), sym c.is_named-named.ensures ∙ c.if-not-named.false) (sym (ap (λ (h : Handed). h.fine) c.hand_on-handed.ensures) ∙ c.if-not-fine.true)); added = λ e. never (sym c.stop-then-not-fine.ensures ∙ e) }
 
 pub returns : goal.returns
 returns c =
-    record { told = sym (rw (eq-eqb (get_or c.args.left.now c.args.n 0) (asked c.args.role) (c.if-left-n.false ∙ c.wanted.ensures), sym c.is_named-named.ensures ∙ not-false _ c.if-not-named.false) (sym (ap (λ (h : Handed). h.fine) c.hand_on-handed.ensures) ∙ not-false _ c.if-not-fine.false)); added = λ e. record { sort = c.if-left-n.false ∙ c.wanted.ensures; kind = sym c.is_named-named.ensures ∙ not-false _ c.if-not-named.false; left_is = refl; fine = sym (ap (λ (h : Handed). h.fine) c.hand_on-handed.ensures) ∙ not-false _ c.if-not-fine.false; held = c.union.ensures; free = c.union-2.ensures ∙ ap (λ (h : Handed). or_bits c.args.s.free h.free) c.hand_on-handed.ensures } }
+    record { told = sym (rw (eq-eqb (get_or c.args.left.now c.args.n 0) (asked c.args.role) (c.if-left-n.false ∙ c.wanted.ensures), sym c.is_named-named.ensures ∙ c.if-not-named.false) (sym (ap (λ (h : Handed). h.fine) c.hand_on-handed.ensures) ∙ c.if-not-fine.false)); added = λ e. record { sort = c.if-left-n.false ∙ c.wanted.ensures; kind = sym c.is_named-named.ensures ∙ c.if-not-named.false; left_is = refl; fine = sym (ap (λ (h : Handed). h.fine) c.hand_on-handed.ensures) ∙ c.if-not-fine.false; held = c.union.ensures; free = c.union-2.ensures ∙ ap (λ (h : Handed). or_bits c.args.s.free h.free) c.hand_on-handed.ensures } }

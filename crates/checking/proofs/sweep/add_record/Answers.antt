@@ -2,7 +2,6 @@
 use mathlib.Core.Path.{refl, sym, ap, ◌∙◌}
 use mathlib.Core.Logic.{inl, inr}
 use native.Mathlib.Omega.{arith}
-use borrow.Author.Tests.{not-true, not-false}
 use Rattle.prelude.proofs.Absurd.{never}
 use Rattle.tables.specs.Accepted.{records}
 use Rattle.checking.specs.Sweeps.{sort_of}
@@ -22,8 +21,8 @@ pub sum_of-s-requires : goal.sum_of-s-requires
 sum_of-s-requires c = (record { ask = c.requires; is = c.kind-k.ensures.0 }, omega (arith, c.if-k-lt-NAME.false))
 
 pub returns-then-not-fine : goal.returns-then-not-fine
-returns-then-not-fine c = (λ e. never e, λ keeps. sym (not-true _ c.if-not-fine.true) ∙ c.sum_of-s.ensures.told keeps)
+returns-then-not-fine c = (λ e. never e, λ keeps. sym c.if-not-fine.true ∙ c.sum_of-s.ensures.told keeps)
 
 pub returns : goal.returns
 returns c =
-    (λ e. record_added (records c.args.table.now) c.args.below.now c.args.frees.now c.args.r _ c.sum_of-s.result c.requires.here.indexed.few c.requires.here.within c.requires.kept (c.sum_of-s.ensures.sums (not-false _ c.if-not-fine.false)) _ _ _ c.sort_of.result (c.sort_of.ensures ∙ ap sort_of c.kind-k.ensures.0) refl refl refl, λ keeps. refl)
+    (λ e. record_added (records c.args.table.now) c.args.below.now c.args.frees.now c.args.r _ c.sum_of-s.result c.requires.here.indexed.few c.requires.here.within c.requires.kept (c.sum_of-s.ensures.sums c.if-not-fine.false) _ _ _ c.sort_of.result (c.sort_of.ensures ∙ ap sort_of c.kind-k.ensures.0) refl refl refl, λ keeps. refl)

@@ -2,7 +2,6 @@
 use mathlib.Core.Path.{refl, sym, ◌∙◌}
 use Prim.Native.Nat.{◌-◌}
 use native.Mathlib.Omega.{arith}
-use borrow.Author.Tests.{not-true, not-false}
 use Rattle.prelude.proofs.Absurd.{never}
 use Rattle.tables.specs.Accepted.{records}
 use Rattle.checking.proofs.Adding.{runs_start, runs-more, runs_end}
@@ -17,7 +16,7 @@ add_record-fine-requires c =
     record { here = record { indexed = c.requires.whole.indexed; within = omega (arith, c.loop-r-test.true, c.requires.whole.all) }; left_is = c.loop-r.invariant.left_is; kept = c.loop-r.invariant.kept }
 
 pub returns-then-not-fine : goal.returns-then-not-fine
-returns-then-not-fine c = (λ e. never e, λ keeps. sym (not-true _ c.if-not-fine.true) ∙ c.add_record-fine.ensures.1 keeps)
+returns-then-not-fine c = (λ e. never e, λ keeps. sym c.if-not-fine.true ∙ c.add_record-fine.ensures.1 keeps)
 
 pub overflow_add-r : goal.overflow_add-r
 overflow_add-r c = omega (arith, c.loop-r-test.true, c.requires.whole.all, c.requires.whole.indexed.few)
@@ -27,7 +26,7 @@ loop-r-smaller c = omega (arith, c.loop-r-test.true)
 
 pub loop-r-preserved : goal.loop-r-preserved
 loop-r-preserved c =
-    runs-more (records c.args.table.now) c.loop-r.left c.loop-r.below c.loop-r.frees _ _ _ c.loop-r.r (omega (arith, c.loop-r-test.true, c.requires.whole.all)) c.loop-r.invariant (c.add_record-fine.ensures.0 (not-false _ c.if-not-fine.false))
+    runs-more (records c.args.table.now) c.loop-r.left c.loop-r.below c.loop-r.frees _ _ _ c.loop-r.r (omega (arith, c.loop-r-test.true, c.requires.whole.all)) c.loop-r.invariant (c.add_record-fine.ensures.0 c.if-not-fine.false)
 
 pub returns : goal.returns
 returns c =

@@ -2,7 +2,6 @@
 use mathlib.Core.Path.{ap, ◌∙◌}
 use Prim.Native.Nat.{◌-◌}
 use native.Mathlib.Omega.{arith}
-use borrow.Author.Tests.{not-true, not-false}
 use Rattle.tables.specs.Accepted.{records}
 use Rattle.checking.specs.Sweeps.{choice_of, alone_of, Names}
 use Rattle.checking.proofs.Gathering.{Gathers, gathers_start, gathers_end, ask_operand, operand_more, operand_stops, kind_most, pattern_names, binder_is}
@@ -29,10 +28,10 @@ add_operand-s-requires c = ask_operand c.operand_from-p.result c.requires.0.ask.
 
 pub returns-then-not-fine : goal.returns-then-not-fine
 returns-then-not-fine c =
-    operand_stops c.requires.0 (names_are c) (none_yet c) (omega (arith, (binder_is c.requires.0 c.requires.1).some_named)) c.operand_from-p.ensures.0 c.operand_from-p.ensures.1 (c.role_of-role.ensures ∙ (binder_is c.requires.0 c.requires.1).role 0) c.add_operand-s.ensures (not-true _ c.if-not-fine.true)
+    operand_stops c.requires.0 (names_are c) (none_yet c) (omega (arith, (binder_is c.requires.0 c.requires.1).some_named)) c.operand_from-p.ensures.0 c.operand_from-p.ensures.1 (c.role_of-role.ensures ∙ (binder_is c.requires.0 c.requires.1).role 0) c.add_operand-s.ensures c.if-not-fine.true
 
 after_one : (c : goal.Else-not-fine) → Gathers (records c.args.table.now) c.args.r c.args.frees.now (choice_of c.args.kind c.names_of-names.result) c.add_operand-s.new.left c.add_operand-s.result 1
-after_one c = operand_more c.requires.0 (names_are c) (none_yet c) (omega (arith, (binder_is c.requires.0 c.requires.1).some_named)) c.operand_from-p.ensures.0 c.operand_from-p.ensures.1 (c.role_of-role.ensures ∙ (binder_is c.requires.0 c.requires.1).role 0) c.add_operand-s.ensures (not-false _ c.if-not-fine.false)
+after_one c = operand_more c.requires.0 (names_are c) (none_yet c) (omega (arith, (binder_is c.requires.0 c.requires.1).some_named)) c.operand_from-p.ensures.0 c.operand_from-p.ensures.1 (c.role_of-role.ensures ∙ (binder_is c.requires.0 c.requires.1).role 0) c.add_operand-s.ensures c.if-not-fine.false
 
 pub operand_from-n-requires : goal.operand_from-n-requires
 operand_from-n-requires c =
@@ -43,10 +42,10 @@ add_operand-s-requires-2 c = ask_operand c.operand_from-n.result c.requires.0.as
 
 pub returns-then-not-fine-2 : goal.returns-then-not-fine-2
 returns-then-not-fine-2 c =
-    operand_stops c.requires.0 (names_are c) (after_one c) (omega (arith, (binder_is c.requires.0 c.requires.1).some_named)) c.operand_from-n.ensures.0 c.operand_from-n.ensures.1 (binder_is c.requires.0 c.requires.1).second c.add_operand-s-2.ensures (not-true _ c.if-not-fine-2.true)
+    operand_stops c.requires.0 (names_are c) (after_one c) (omega (arith, (binder_is c.requires.0 c.requires.1).some_named)) c.operand_from-n.ensures.0 c.operand_from-n.ensures.1 (binder_is c.requires.0 c.requires.1).second c.add_operand-s-2.ensures c.if-not-fine-2.true
 
 after_two : (c : goal.Else-not-fine-2) → Gathers (records c.args.table.now) c.args.r c.args.frees.now (choice_of c.args.kind c.names_of-names.result) c.add_operand-s-2.new.left c.add_operand-s-2.result 2
-after_two c = operand_more c.requires.0 (names_are c) (after_one c) (omega (arith, (binder_is c.requires.0 c.requires.1).some_named)) c.operand_from-n.ensures.0 c.operand_from-n.ensures.1 (binder_is c.requires.0 c.requires.1).second c.add_operand-s-2.ensures (not-false _ c.if-not-fine-2.false)
+after_two c = operand_more c.requires.0 (names_are c) (after_one c) (omega (arith, (binder_is c.requires.0 c.requires.1).some_named)) c.operand_from-n.ensures.0 c.operand_from-n.ensures.1 (binder_is c.requires.0 c.requires.1).second c.add_operand-s-2.ensures c.if-not-fine-2.false
 
 pub operand_from-n-requires-2 : goal.operand_from-n-requires-2
 operand_from-n-requires-2 c =
@@ -61,10 +60,10 @@ add_operand-s-requires-3 c =
 
 pub returns-then-not-fine-3 : goal.returns-then-not-fine-3
 returns-then-not-fine-3 c =
-    operand_stops c.requires.0 (names_are c) (after_two c) (omega (arith, (binder_is c.requires.0 c.requires.1).some_named)) c.operand_from-n-2.ensures.0 c.operand_from-n-2.ensures.1 (c.role_of-role-2.ensures ∙ (binder_is c.requires.0 c.requires.1).role 2) c.add_operand-s-3.ensures (not-true _ c.if-not-fine-3.true)
+    operand_stops c.requires.0 (names_are c) (after_two c) (omega (arith, (binder_is c.requires.0 c.requires.1).some_named)) c.operand_from-n-2.ensures.0 c.operand_from-n-2.ensures.1 (c.role_of-role-2.ensures ∙ (binder_is c.requires.0 c.requires.1).role 2) c.add_operand-s-3.ensures c.if-not-fine-3.true
 
 after_three : (c : goal.Else-not-fine-3) → Gathers (records c.args.table.now) c.args.r c.args.frees.now (choice_of c.args.kind c.names_of-names.result) c.add_operand-s-3.new.left c.add_operand-s-3.result 3
-after_three c = operand_more c.requires.0 (names_are c) (after_two c) (omega (arith, (binder_is c.requires.0 c.requires.1).some_named)) c.operand_from-n-2.ensures.0 c.operand_from-n-2.ensures.1 (c.role_of-role-2.ensures ∙ (binder_is c.requires.0 c.requires.1).role 2) c.add_operand-s-3.ensures (not-false _ c.if-not-fine-3.false)
+after_three c = operand_more c.requires.0 (names_are c) (after_two c) (omega (arith, (binder_is c.requires.0 c.requires.1).some_named)) c.operand_from-n-2.ensures.0 c.operand_from-n-2.ensures.1 (c.role_of-role-2.ensures ∙ (binder_is c.requires.0 c.requires.1).role 2) c.add_operand-s-3.ensures c.if-not-fine-3.false
 
 pub operands_from-count-requires : goal.operands_from-count-requires
 operands_from-count-requires c = (c.requires.0.ask.here, (binder_is c.requires.0 c.requires.1).first)
@@ -82,7 +81,7 @@ add_operand-s-requires-in-loop-i c =
 
 pub returns-then-not-fine-4 : goal.returns-then-not-fine-4
 returns-then-not-fine-4 c =
-    operand_stops c.requires.0 (names_are c) c.loop-i.invariant.1 (omega (arith, c.loop-i-test.true, c.operands_from-count.ensures.0)) c.operand_from-n-in-loop-i.ensures.0 c.operand_from-n-in-loop-i.ensures.1 ((binder_is c.requires.0 c.requires.1).body c.loop-i.i c.loop-i.invariant.0 (omega (arith, c.loop-i-test.true, c.operands_from-count.ensures.0))) c.add_operand-s-in-loop-i.ensures (not-true _ c.if-not-fine-4.true)
+    operand_stops c.requires.0 (names_are c) c.loop-i.invariant.1 (omega (arith, c.loop-i-test.true, c.operands_from-count.ensures.0)) c.operand_from-n-in-loop-i.ensures.0 c.operand_from-n-in-loop-i.ensures.1 ((binder_is c.requires.0 c.requires.1).body c.loop-i.i c.loop-i.invariant.0 (omega (arith, c.loop-i-test.true, c.operands_from-count.ensures.0))) c.add_operand-s-in-loop-i.ensures c.if-not-fine-4.true
 
 pub overflow_add-i : goal.overflow_add-i
 overflow_add-i c = omega (arith, c.loop-i-test.true, c.operands_from-count.ensures.1)
@@ -92,7 +91,7 @@ loop-i-smaller c = omega (arith, c.loop-i-test.true)
 
 pub loop-i-preserved : goal.loop-i-preserved
 loop-i-preserved c =
-    (omega (arith, c.loop-i.invariant.0), operand_more c.requires.0 (names_are c) c.loop-i.invariant.1 (omega (arith, c.loop-i-test.true, c.operands_from-count.ensures.0)) c.operand_from-n-in-loop-i.ensures.0 c.operand_from-n-in-loop-i.ensures.1 ((binder_is c.requires.0 c.requires.1).body c.loop-i.i c.loop-i.invariant.0 (omega (arith, c.loop-i-test.true, c.operands_from-count.ensures.0))) c.add_operand-s-in-loop-i.ensures (not-false _ c.if-not-fine-4.false))
+    (omega (arith, c.loop-i.invariant.0), operand_more c.requires.0 (names_are c) c.loop-i.invariant.1 (omega (arith, c.loop-i-test.true, c.operands_from-count.ensures.0)) c.operand_from-n-in-loop-i.ensures.0 c.operand_from-n-in-loop-i.ensures.1 ((binder_is c.requires.0 c.requires.1).body c.loop-i.i c.loop-i.invariant.0 (omega (arith, c.loop-i-test.true, c.operands_from-count.ensures.0))) c.add_operand-s-in-loop-i.ensures c.if-not-fine-4.false)
 
 pub returns : goal.returns
 returns c =

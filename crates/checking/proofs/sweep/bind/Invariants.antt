@@ -5,7 +5,7 @@ use Rattle.checking.proofs.Gathering.{Gathers}
 use Rattle.checking.proofs.sweep.bind.Given as goal
 
 abbrev pub invariant-loop-i : goal.invariant-loop-i
-invariant-loop-i l = (3 ≤ l.i) × Gathers (records l.table) l.r l.p (choice_of l.kind l.fine-3) l.left l.s l.i
+invariant-loop-i l = (3 ≤ l.i) × Gathers (records l.table) l.r l.frees (choice_of l.kind l.names) l.left l.s l.i
 
 abbrev pub decreases-loop-i : goal.decreases-loop-i
-decreases-loop-i l = l.initial.left - l.i
+decreases-loop-i l = l.count - l.i

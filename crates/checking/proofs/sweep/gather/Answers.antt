@@ -2,7 +2,6 @@
 use mathlib.Core.Path.{ap, ◌∙◌}
 use Prim.Native.Nat.{◌-◌}
 use native.Mathlib.Omega.{arith}
-use borrow.Author.Tests.{not-true, not-false}
 use Rattle.tables.specs.Accepted.{records}
 use Rattle.tables.specs.Shapes.{first_of}
 use Rattle.checking.proofs.Gathering.{gathers_start, gathers_end, ask_operand, operand_more, operand_stops, kind_most, binds_nothing}
@@ -31,7 +30,7 @@ add_operand-s-requires c =
 
 pub returns-then-not-fine : goal.returns-then-not-fine
 returns-then-not-fine c =
-    operand_stops c.requires.0 (binds_nothing c.requires.0 c.requires.1 c.requires.2).names c.loop-i.invariant (omega (arith, c.loop-i-test.true, c.operands_from-count.ensures.0)) c.operand_from-n.ensures.0 c.operand_from-n.ensures.1 (c.one_role-role.ensures ∙ (binds_nothing c.requires.0 c.requires.1 c.requires.2).role c.loop-i.i (omega (arith, c.loop-i-test.true, c.operands_from-count.ensures.0))) c.add_operand-s.ensures (not-true _ c.if-not-fine.true)
+    operand_stops c.requires.0 (binds_nothing c.requires.0 c.requires.1 c.requires.2).names c.loop-i.invariant (omega (arith, c.loop-i-test.true, c.operands_from-count.ensures.0)) c.operand_from-n.ensures.0 c.operand_from-n.ensures.1 (c.one_role-role.ensures ∙ (binds_nothing c.requires.0 c.requires.1 c.requires.2).role c.loop-i.i (omega (arith, c.loop-i-test.true, c.operands_from-count.ensures.0))) c.add_operand-s.ensures c.if-not-fine.true
 
 pub overflow_add-i : goal.overflow_add-i
 overflow_add-i c = omega (arith, c.loop-i-test.true, c.operands_from-count.ensures.1)
@@ -41,7 +40,7 @@ loop-i-smaller c = omega (arith, c.loop-i-test.true)
 
 pub loop-i-preserved : goal.loop-i-preserved
 loop-i-preserved c =
-    operand_more c.requires.0 (binds_nothing c.requires.0 c.requires.1 c.requires.2).names c.loop-i.invariant (omega (arith, c.loop-i-test.true, c.operands_from-count.ensures.0)) c.operand_from-n.ensures.0 c.operand_from-n.ensures.1 (c.one_role-role.ensures ∙ (binds_nothing c.requires.0 c.requires.1 c.requires.2).role c.loop-i.i (omega (arith, c.loop-i-test.true, c.operands_from-count.ensures.0))) c.add_operand-s.ensures (not-false _ c.if-not-fine.false)
+    operand_more c.requires.0 (binds_nothing c.requires.0 c.requires.1 c.requires.2).names c.loop-i.invariant (omega (arith, c.loop-i-test.true, c.operands_from-count.ensures.0)) c.operand_from-n.ensures.0 c.operand_from-n.ensures.1 (c.one_role-role.ensures ∙ (binds_nothing c.requires.0 c.requires.1 c.requires.2).role c.loop-i.i (omega (arith, c.loop-i-test.true, c.operands_from-count.ensures.0))) c.add_operand-s.ensures c.if-not-fine.false
 
 pub returns : goal.returns
 returns c =

@@ -4,7 +4,7 @@ use Rattle.checking.proofs.Gathering.{Gathers}
 use Rattle.checking.proofs.sweep.gather.Given as goal
 
 abbrev pub invariant-loop-i : goal.invariant-loop-i
-invariant-loop-i l = Gathers (records l.table) l.r l.role 0 l.left l.s l.i
+invariant-loop-i l = Gathers (records l.table) l.r l.frees 0 l.left l.s l.i
 
 abbrev pub decreases-loop-i : goal.decreases-loop-i
-decreases-loop-i l = l.initial.s - l.i
+decreases-loop-i l = l.count - l.i

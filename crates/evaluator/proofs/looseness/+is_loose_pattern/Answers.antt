@@ -5,25 +5,25 @@ use Rattle.evaluator.proofs.Loosening.{loose_here, left_start, left_has, left_be
 use Rattle.evaluator.proofs.looseness.+is_loose_pattern.Goals as goal
 
 pub kind-k-requires : goal.kind-k-requires
-kind-k-requires t c = c.requires.1.1
+kind-k-requires t c = c.requires.1
 
 pub returns-then-is_loose : goal.returns-then-is_loose
 returns-then-is_loose t c =
-    loose_here c.requires.1.0 c.requires.1.1 c.kind-k.ensures.0 (sym c.is_loose.ensures ∙ c.if-is_loose.true)
+    loose_here c.requires.0 c.requires.1 c.kind-k.ensures.0 (sym c.is_loose.ensures ∙ c.if-is_loose.true)
 
 pub operand_count-n-requires : goal.operand_count-n-requires
-operand_count-n-requires t c = c.requires.1.1
+operand_count-n-requires t c = c.requires.1
 
 pub loop-i-init : goal.loop-i-init
 loop-i-init t c =
-    (c.requires.1.0, c.requires.1.1, left_start c.requires.1.0 c.requires.1.1 c.kind-k.ensures.0 (sym c.is_loose.ensures ∙ c.if-is_loose.false) c.operand_count-n.ensures.0)
+    (c.requires.0, c.requires.1, left_start c.requires.0 c.requires.1 c.kind-k.ensures.0 (sym c.is_loose.ensures ∙ c.if-is_loose.false) c.operand_count-n.ensures.0)
 
 pub operand-a-requires : goal.operand-a-requires
 operand-a-requires t c = left_has c.loop-i.invariant.0 c.loop-i.invariant.1 c.loop-i.invariant.2 c.loop-i-test.true
 
 pub is_loose_pattern-found-requires : goal.is_loose_pattern-found-requires
 is_loose_pattern-found-requires t c =
-    let h = left_below c.loop-i.invariant.0 c.loop-i.invariant.1 c.loop-i.invariant.2 c.loop-i-test.true c.operand-a.ensures.0 in (omega (arith, h.0, c.requires.0), (c.requires.1.0, h.1))
+    let h = left_below c.loop-i.invariant.0 c.loop-i.invariant.1 c.loop-i.invariant.2 c.loop-i-test.true c.operand-a.ensures.0 in (omega (arith, h.0, c.decreases), (c.requires.0, h.1))
 
 pub returns-then-found : goal.returns-then-found
 returns-then-found t c =
@@ -41,22 +41,3 @@ loop-i-preserved t c =
 
 pub returns : goal.returns
 returns t c = left_none c.loop-i.invariant.0 c.loop-i.invariant.1 c.loop-i.invariant.2 c.loop-i-test.false
-
-+is-loose-pattern-spec : {M : Type 1} → statement M
-+is-loose-pattern-spec = close μ_is_loose_pattern λ t. is_loose_pattern_lts.spec (calls t)
-    (is_loose_pattern_at t)
-    is_loose_pattern.Post
-    is_loose_pattern_Inv_loop
-    is_loose_pattern_μ_loop
-    (kind-k-requires t)
-    (is_loose-requires t)
-    (returns-then-is_loose t)
-    (operand_count-n-requires t)
-    (loop-i-init t)
-    (operand-a-requires t)
-    (is_loose_pattern-found-requires t)
-    (returns-then-found t)
-    (overflow_add-i t)
-    (loop-i-smaller t)
-    (loop-i-preserved t)
-    (returns t)

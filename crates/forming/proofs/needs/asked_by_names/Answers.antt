@@ -1,6 +1,5 @@
 use Prim.Native.Nat.{◌-◌}
 use native.Mathlib.Omega.{arith}
-use borrow.Author.Tests.{not-true}
 use Rattle.matching.proofs.Records.{has_operand, operand_readable}
 use Rattle.forming.proofs.Needing.{named_part, names_lack, nothing_told, had_told}
 use Rattle.forming.proofs.needs.asked_by_names.Goals as goal
@@ -24,7 +23,7 @@ has_item-there-requires c =
 
 pub returns-then-not-there : goal.returns-then-not-there
 returns-then-not-there c =
-    λ z. names_lack _ _ _ c.requires.0.readable _ _ _ c.args.c c.requires.2 c.requires.3 _ (omega (arith, c.operand_count-n.ensures.0)) _ c.operand-q.ensures.0 _ c.word_at-word.ensures c.if-word-ne0.true _ c.unpack-value.ensures _ c.has_item-there.ensures (not-true _ c.if-not-there.true)
+    λ z. names_lack _ _ _ c.requires.0.readable _ _ _ c.args.c c.requires.2 c.requires.3 _ (omega (arith, c.operand_count-n.ensures.0)) _ c.operand-q.ensures.0 _ c.word_at-word.ensures c.if-word-ne0.true _ c.unpack-value.ensures _ c.has_item-there.ensures c.if-not-there.true
 
 pub overflow_add-i : goal.overflow_add-i
 overflow_add-i c = omega (arith, c.operand_count-n.ensures.1)

@@ -1,6 +1,5 @@
 use native.Mathlib.Omega.{arith}
 use Prim.Native.Nat.{◌-◌}
-use borrow.Author.Tests.{not-false}
 use Rattle.matching.proofs.Records.{has_operand, operand_readable}
 use Rattle.forming.proofs.Reducing.{concatenation_two, no_spare, spare_told}
 use Rattle.forming.proofs.reduced.is_spare.Goals as goal
@@ -36,4 +35,4 @@ takes_more-requires c =
 
 pub returns : goal.returns
 returns c =
-    spare_told _ _ _ c.requires.readable c.requires.of_kind c.args.side c.requires.low _ c.operand-u.ensures.0 _ c.accepts_all-all.ensures (not-false _ c.if-not-all.false) _ c.operand-q.ensures.0 (operand_readable _ _ _ c.requires.readable (1 - c.args.side) (omega (arith, concatenation_two _ _ _ c.requires.readable c.requires.of_kind, c.requires.low)) _ c.operand-q.ensures.0) (omega (arith, c.kind-k.ensures.0)) _ c.takes_more.ensures
+    spare_told _ _ _ c.requires.readable c.requires.of_kind c.args.side c.requires.low _ c.operand-u.ensures.0 _ c.accepts_all-all.ensures c.if-not-all.false _ c.operand-q.ensures.0 (operand_readable _ _ _ c.requires.readable (1 - c.args.side) (omega (arith, concatenation_two _ _ _ c.requires.readable c.requires.of_kind, c.requires.low)) _ c.operand-q.ensures.0) (omega (arith, c.kind-k.ensures.0)) _ c.takes_more.ensures

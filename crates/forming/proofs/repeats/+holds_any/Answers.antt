@@ -1,41 +1,40 @@
 use Prim.Native.Nat.{◌-◌}
 use native.Mathlib.Omega.{arith}
 use mathlib.Core.Path.{sym, ◌∙◌}
-use borrow.Author.Tests.{not-true, not-false}
 use Rattle.tables.specs.Laws.Kinds.{composed_told}
 use Rattle.matching.proofs.Records.{has_operand, operand_readable}
 use Rattle.forming.proofs.Repeating.{any_here, any_leaf, any_next, any_found, any_none}
 use Rattle.forming.proofs.repeats.+holds_any.Goals as goal
 
 pub kind-k-requires : goal.kind-k-requires
-kind-k-requires t c = c.requires.1.here
+kind-k-requires t c = c.requires.here
 
 pub returns-then-k-eq-ANY_PATTERN : goal.returns-then-k-eq-ANY_PATTERN
-returns-then-k-eq-ANY_PATTERN t c = any_here _ _ _ c.requires.1 (sym c.kind-k.ensures.0 ∙ c.if-k-eq-ANY_PATTERN.true)
+returns-then-k-eq-ANY_PATTERN t c = any_here _ _ _ c.requires (sym c.kind-k.ensures.0 ∙ c.if-k-eq-ANY_PATTERN.true)
 
 pub is_composed-requires : goal.is_composed-requires
 is_composed-requires t c = c.kind-k.ensures.1
 
 pub returns-then-not-is_composed : goal.returns-then-not-is_composed
 returns-then-not-is_composed t c =
-    any_leaf _ _ _ c.requires.1 (λ e. c.if-k-eq-ANY_PATTERN.false (c.kind-k.ensures.0 ∙ e)) (composed_told c.kind-k.ensures.0 c.is_composed.ensures (not-true _ c.if-not-is_composed.true))
+    any_leaf _ _ _ c.requires (λ e. c.if-k-eq-ANY_PATTERN.false (c.kind-k.ensures.0 ∙ e)) (composed_told c.kind-k.ensures.0 c.is_composed.ensures c.if-not-is_composed.true)
 
 pub operand_count-n-requires : goal.operand_count-n-requires
-operand_count-n-requires t c = c.requires.1.here
+operand_count-n-requires t c = c.requires.here
 
 pub loop-i-init : goal.loop-i-init
 loop-i-init t c = λ j l. absurd (omega arith)
 
 pub operand-q-requires : goal.operand-q-requires
-operand-q-requires t c = has_operand _ _ _ c.requires.1 _ (omega (arith, c.operand_count-n.ensures.0))
+operand-q-requires t c = has_operand _ _ _ c.requires _ (omega (arith, c.operand_count-n.ensures.0))
 
 pub holds_any-holds-requires : goal.holds_any-holds-requires
 holds_any-holds-requires t c =
-    let o = operand_readable _ _ _ c.requires.1 _ (omega (arith, c.operand_count-n.ensures.0)) _ c.operand-q.ensures.0 in (omega (arith, o.1, c.requires.0), o.0)
+    let o = operand_readable _ _ _ c.requires _ (omega (arith, c.operand_count-n.ensures.0)) _ c.operand-q.ensures.0 in (omega (arith, o.1, c.decreases), o.0)
 
 pub returns-then-holds : goal.returns-then-holds
 returns-then-holds t c =
-    any_found _ _ _ c.requires.1 (composed_told c.kind-k.ensures.0 c.is_composed.ensures (not-false _ c.if-not-is_composed.false)) _ _ (omega (arith, c.operand_count-n.ensures.0)) c.operand-q.ensures.0 _ c.holds_any-holds.ensures c.if-holds.true
+    any_found _ _ _ c.requires (composed_told c.kind-k.ensures.0 c.is_composed.ensures c.if-not-is_composed.false) _ _ (omega (arith, c.operand_count-n.ensures.0)) c.operand-q.ensures.0 _ c.holds_any-holds.ensures c.if-holds.true
 
 pub overflow_add-i : goal.overflow_add-i
 overflow_add-i t c = omega (arith, c.operand_count-n.ensures.1)
@@ -49,24 +48,4 @@ loop-i-preserved t c =
 
 pub returns : goal.returns
 returns t c =
-    any_none _ _ _ c.requires.1 (composed_told c.kind-k.ensures.0 c.is_composed.ensures (not-false _ c.if-not-is_composed.false)) c.loop-i.i c.loop-i.invariant (omega (arith, c.operand_count-n.ensures.0))
-
-+holds-any-spec : {M : Type 1} → statement M
-+holds-any-spec = close μ_holds_any λ t. holds_any_lts.spec (holds_any_calls t)
-    (holds_any_at t)
-    holds_any.Post
-    holds_any_Inv_loop
-    holds_any_μ_loop
-    (kind-k-requires t)
-    (returns-then-k-eq-ANY_PATTERN t)
-    (is_composed-requires t)
-    (returns-then-not-is_composed t)
-    (operand_count-n-requires t)
-    (loop-i-init t)
-    (operand-q-requires t)
-    (holds_any-holds-requires t)
-    (returns-then-holds t)
-    (overflow_add-i t)
-    (loop-i-smaller t)
-    (loop-i-preserved t)
-    (returns t)
+    any_none _ _ _ c.requires (composed_told c.kind-k.ensures.0 c.is_composed.ensures c.if-not-is_composed.false) c.loop-i.i c.loop-i.invariant (omega (arith, c.operand_count-n.ensures.0))

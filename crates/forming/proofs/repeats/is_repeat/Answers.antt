@@ -1,7 +1,6 @@
 use mathlib.Core.Path.{sym, subst}
 use Prim.Native.Nat.{◌≤◌}
 use native.Mathlib.Omega.{arith}
-use borrow.Author.Tests.{not-false}
 use Rattle.prelude.proofs.Absurd.{true_false}
 use Rattle.tables.specs.Accepted.{records}
 use Rattle.patterns.specs.Read.{Readable, pattern_at}
@@ -45,4 +44,4 @@ some_agrees-requires c =
 
 pub returns : goal.returns
 returns c =
-    λ e. record { frame = c.lowest_matched-j.result; within = omega arith; settled = subst (λ (g : Frame). Settled (pattern_at (records c.args.table.now) g.p) c.args.found.now) c.load-f.ensures (c.is_settled.ensures.says (not-false _ c.if-not-is_settled.false)); row = subst (λ (g : Frame). SomeAgrees c.args.found.now c.args.rows.now g.since g.seen) c.load-f.ensures (c.some_agrees.ensures e) }
+    λ e. record { frame = c.lowest_matched-j.result; within = omega arith; settled = subst (λ (g : Frame). Settled (pattern_at (records c.args.table.now) g.p) c.args.found.now) c.load-f.ensures (c.is_settled.ensures.says c.if-not-is_settled.false); row = subst (λ (g : Frame). SomeAgrees c.args.found.now c.args.rows.now g.since g.seen) c.load-f.ensures (c.some_agrees.ensures e) }

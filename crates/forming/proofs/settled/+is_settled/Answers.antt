@@ -2,40 +2,39 @@ use mathlib.Core.Path.{sym, ◌∙◌}
 use Prim.Native.Nat.{◌-◌}
 use native.Mathlib.Omega.{arith}
 use Rattle.tables.specs.Laws.Kinds.{composed_told}
-use borrow.Author.Tests.{not-true, not-false}
 use Rattle.matching.proofs.Records.{name_field, has_operand, operand_readable}
 use Rattle.forming.proofs.Settling.{settled_name, settled_leaf, settled_next, settled_all, settled_no}
 use Rattle.forming.proofs.settled.+is_settled.Goals as goal
 
 pub kind-k-requires : goal.kind-k-requires
-kind-k-requires t c = c.requires.1.here
+kind-k-requires t c = c.requires.here
 
 pub field-x-requires : goal.field-x-requires
-field-x-requires t c = name_field _ _ _ c.requires.1 (sym c.kind-k.ensures.0 ∙ c.if-k-eq-NAME_PATTERN.true)
+field-x-requires t c = name_field _ _ _ c.requires (sym c.kind-k.ensures.0 ∙ c.if-k-eq-NAME_PATTERN.true)
 
 pub returns-then-k-eq-NAME_PATTERN : goal.returns-then-k-eq-NAME_PATTERN
 returns-then-k-eq-NAME_PATTERN t c =
-    settled_name _ _ _ c.requires.1 _ (sym c.kind-k.ensures.0 ∙ c.if-k-eq-NAME_PATTERN.true) _ c.field-x.ensures.0 _ c.Has-word.ensures
+    settled_name _ _ _ c.requires _ (sym c.kind-k.ensures.0 ∙ c.if-k-eq-NAME_PATTERN.true) _ c.field-x.ensures.0 _ c.has_word.ensures
 
 pub is_composed-requires : goal.is_composed-requires
 is_composed-requires t c = c.kind-k.ensures.1
 
 pub returns-then-not-is_composed : goal.returns-then-not-is_composed
 returns-then-not-is_composed t c =
-    settled_leaf _ _ _ c.requires.1 _ (λ e. c.if-k-eq-NAME_PATTERN.false (c.kind-k.ensures.0 ∙ e)) (composed_told c.kind-k.ensures.0 c.is_composed.ensures (not-true _ c.if-not-is_composed.true))
+    settled_leaf _ _ _ c.requires _ (λ e. c.if-k-eq-NAME_PATTERN.false (c.kind-k.ensures.0 ∙ e)) (composed_told c.kind-k.ensures.0 c.is_composed.ensures c.if-not-is_composed.true)
 
 pub operand_count-n-requires : goal.operand_count-n-requires
-operand_count-n-requires t c = c.requires.1.here
+operand_count-n-requires t c = c.requires.here
 
 pub loop-i-init : goal.loop-i-init
 loop-i-init t c = λ j l. absurd (omega arith)
 
 pub operand-q-requires : goal.operand-q-requires
-operand-q-requires t c = has_operand _ _ _ c.requires.1 _ (omega (arith, c.operand_count-n.ensures.0))
+operand-q-requires t c = has_operand _ _ _ c.requires _ (omega (arith, c.operand_count-n.ensures.0))
 
 pub is_settled-settled-requires : goal.is_settled-settled-requires
 is_settled-settled-requires t c =
-    let o = operand_readable _ _ _ c.requires.1 _ (omega (arith, c.operand_count-n.ensures.0)) _ c.operand-q.ensures.0 in (omega (arith, o.1, c.requires.0), o.0)
+    let o = operand_readable _ _ _ c.requires _ (omega (arith, c.operand_count-n.ensures.0)) _ c.operand-q.ensures.0 in (omega (arith, o.1, c.decreases), o.0)
 
 pub returns-then-not-settled : goal.returns-then-not-settled
 returns-then-not-settled t c = settled_no _ _ _
@@ -48,30 +47,8 @@ loop-i-smaller t c = omega arith
 
 pub loop-i-preserved : goal.loop-i-preserved
 loop-i-preserved t c =
-    settled_next _ _ _ _ _ c.loop-i.invariant c.operand-q.ensures.0 _ c.is_settled-settled.ensures (not-false _ c.if-not-settled.false)
+    settled_next _ _ _ _ _ c.loop-i.invariant c.operand-q.ensures.0 _ c.is_settled-settled.ensures c.if-not-settled.false
 
 pub returns : goal.returns
 returns t c =
-    settled_all _ _ _ c.requires.1 _ (composed_told c.kind-k.ensures.0 c.is_composed.ensures (not-false _ c.if-not-is_composed.false)) _ c.loop-i.invariant (omega (arith, c.operand_count-n.ensures.0))
-
-+is-settled-spec : {M : Type 1} → statement M
-+is-settled-spec = close μ_is_settled λ t. is_settled_lts.spec (is_settled_calls t)
-    (is_settled_at t)
-    is_settled.Post
-    is_settled_Inv_loop
-    is_settled_μ_loop
-    (kind-k-requires t)
-    (field-x-requires t)
-    (has_word-requires t)
-    (returns-then-k-eq-NAME_PATTERN t)
-    (is_composed-requires t)
-    (returns-then-not-is_composed t)
-    (operand_count-n-requires t)
-    (loop-i-init t)
-    (operand-q-requires t)
-    (is_settled-settled-requires t)
-    (returns-then-not-settled t)
-    (overflow_add-i t)
-    (loop-i-smaller t)
-    (loop-i-preserved t)
-    (returns t)
+    settled_all _ _ _ c.requires _ (composed_told c.kind-k.ensures.0 c.is_composed.ensures c.if-not-is_composed.false) _ c.loop-i.invariant (omega (arith, c.operand_count-n.ensures.0))

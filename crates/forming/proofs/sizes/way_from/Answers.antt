@@ -31,4 +31,4 @@ returns-then-r c =
 
 pub returns : goal.returns
 returns c =
-    from_splits c.args.k c.args.w (c.requires (not-false _ c.if-not-z.false)) c.args.z (not-false _ c.if-not-z.false) c.args.d (omega arith) _ _ (is_split c.args.k (c.requires (not-false _ c.if-not-z.false)).splits c.if-k-eq-CONCATENATION_PATTERN.false) c.rights-r-2.ensures c.Split-from.ensures
+    from_splits c.args.k c.args.w (c.requires (not-false _ c.if-not-z.false)) c.args.z (not-false _ c.if-not-z.false) c.args.d (omega arith) _ _ (is_split c.args.k (c.requires (not-false _ c.if-not-z.false)).splits c.if-k-eq-CONCATENATION_PATTERN.false) c.rights-r-2.ensures c.split_from-e.ensures

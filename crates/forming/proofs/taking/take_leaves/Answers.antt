@@ -1,5 +1,4 @@
 use native.Mathlib.Omega.{arith}
-use borrow.Author.Tests.{not-true, not-false}
 use Rattle.tables.specs.Laws.Kinds.{composed_told}
 use Rattle.forming.proofs.Leaving.{take_start, head_low, entry_low, entry_readable, next_lower, leaf_asked, ask_asked, take_wait, take_leaf, take_none, take_lacked, take_full, take_end}
 use Rattle.forming.proofs.taking.take_leaves.Goals as goal
@@ -58,11 +57,10 @@ may_match-fits-requires c = ask_asked _ _ _ _ _ _ c.requires _ _ _ c.loop-head.i
 
 pub returns-then-not-fits : goal.returns-then-not-fits
 returns-then-not-fits c =
-    take_lacked _ _ _ _ _ _ c.requires _ _ _ c.loop-head.invariant (omega arith) _ c.may_match-fits.ensures (not-true _ c.if-not-fits.true)
+    take_lacked _ _ _ _ _ _ c.requires _ _ _ c.loop-head.invariant (omega arith) _ c.may_match-fits.ensures c.if-not-fits.true
 
 pub returns-then-wait-gt0 : goal.returns-then-wait-gt0
-returns-then-wait-gt0 c =
-    take_full _ _ _ _ _ _ c.requires _ _ _ c.loop-head.invariant (omega arith) _ (not-false _ c.if-not-fits.false)
+returns-then-wait-gt0 c = take_full _ _ _ _ _ _ c.requires _ _ _ c.loop-head.invariant (omega arith) _ c.if-not-fits.false
 
 pub loop-head-smaller-then-is_composed : goal.loop-head-smaller-then-is_composed
 loop-head-smaller-then-is_composed c = omega (arith, next_lower _ _ _ _ _ _ c.requires _ _ _ c.loop-head.invariant (omega arith))
@@ -77,14 +75,14 @@ match_leaf-fits-requires c =
 
 pub returns-then-not-fits-2 : goal.returns-then-not-fits-2
 returns-then-not-fits-2 c =
-    take_none _ _ _ _ _ _ c.requires _ _ _ c.loop-head.invariant (omega arith) _ _ (λ v b q h. c.match_leaf-fits.ensures.0 v b q h) c.match_leaf-fits.ensures.1 (not-true _ c.if-not-fits-2.true)
+    take_none _ _ _ _ _ _ c.requires _ _ _ c.loop-head.invariant (omega arith) _ _ (λ v b q h. c.match_leaf-fits.ensures.0 v b q h) c.match_leaf-fits.ensures.1 c.if-not-fits-2.true
 
 pub loop-head-smaller : goal.loop-head-smaller
 loop-head-smaller c = omega (arith, next_lower _ _ _ _ _ _ c.requires _ _ _ c.loop-head.invariant (omega arith))
 
 pub loop-head-preserved : goal.loop-head-preserved
 loop-head-preserved c =
-    take_leaf _ _ _ _ _ _ c.requires _ _ _ c.loop-head.invariant (omega arith) _ _ (λ v b q h. c.match_leaf-fits.ensures.0 v b q h) c.match_leaf-fits.ensures.1 (not-false _ c.if-not-fits-2.false)
+    take_leaf _ _ _ _ _ _ c.requires _ _ _ c.loop-head.invariant (omega arith) _ _ (λ v b q h. c.match_leaf-fits.ensures.0 v b q h) c.match_leaf-fits.ensures.1 c.if-not-fits-2.false
 
 pub returns : goal.returns
 returns c = take_end _ _ _ _ _ _ c.requires _ _ _ c.loop-head.invariant (omega arith)

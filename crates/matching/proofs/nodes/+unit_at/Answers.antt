@@ -6,7 +6,7 @@ pub nonzero_rem-at : goal.nonzero_rem-at
 nonzero_rem-at t c = omega arith
 
 pub returns-then-i-at : goal.returns-then-i-at
-returns-then-i-at t c = placed_first _ _ _ (omega arith) c.requires.1.1 c.if-i-at.true
+returns-then-i-at t c = placed_first _ _ _ (omega arith) c.requires.1 c.if-i-at.true
 
 pub overflow_sub-n : goal.overflow_sub-n
 overflow_sub-n t c = omega arith
@@ -16,14 +16,14 @@ nonzero_div-d t c = omega arith
 
 pub unit_at-requires : goal.unit_at-requires
 unit_at-requires t c =
-    let pre = c.requires.1 in
-    (omega arith, (omega arith, quotient_low _ _ (omega arith) pre.1, omega (arith, c.if-i-at-2.true, rest_low c.args.n c.args.d (omega arith))))
+    let pre = c.requires in
+    (omega arith, (omega arith, quotient_low _ _ (omega arith) pre, omega (arith, c.if-i-at-2.true, rest_low c.args.n c.args.d (omega arith))))
 
 pub overflow_add-result : goal.overflow_add-result
 overflow_add-result t c = omega (arith, c.unit_at.ensures.below)
 
 pub returns-then-i-at-2 : goal.returns-then-i-at-2
-returns-then-i-at-2 t c = placed_before _ _ _ (omega arith) c.requires.1.1 _ c.if-i-at-2.true c.unit_at.ensures
+returns-then-i-at-2 t c = placed_before _ _ _ (omega arith) c.requires.1 _ c.if-i-at-2.true c.unit_at.ensures
 
 pub overflow_sub-n-2 : goal.overflow_sub-n-2
 overflow_sub-n-2 t c = omega arith
@@ -36,33 +36,11 @@ overflow_sub-i t c = omega arith
 
 pub unit_at-requires-2 : goal.unit_at-requires-2
 unit_at-requires-2 t c =
-    let pre = c.requires.1 in
-    (omega arith, (omega arith, quotient_low _ _ (omega arith) pre.1, omega arith))
+    let pre = c.requires in
+    (omega arith, (omega arith, quotient_low _ _ (omega arith) pre, omega arith))
 
 pub overflow_add-result-2 : goal.overflow_add-result-2
 overflow_add-result-2 t c = omega (arith, c.unit_at-2.ensures.below)
 
 pub returns : goal.returns
-returns t c = placed_after _ _ _ (omega arith) c.requires.1.1 _ (omega arith) c.unit_at-2.ensures
-
-+unit-at-spec : {M : Type 1} → statement M
-+unit-at-spec =
-    close
-    μ_unit_at
-    λ t. unit_at_lts.spec
-    (unit_at_below t, unit_at.Post)
-    (unit_at_at t)
-    unit_at.Post
-    (nonzero_rem-at t)
-    (returns-then-i-at t)
-    (overflow_sub-n t)
-    (nonzero_div-d t)
-    (unit_at-requires t)
-    (overflow_add-result t)
-    (returns-then-i-at-2 t)
-    (overflow_sub-n-2 t)
-    (nonzero_div-d-2 t)
-    (overflow_sub-i t)
-    (unit_at-requires-2 t)
-    (overflow_add-result-2 t)
-    (returns t)
+returns t c = placed_after _ _ _ (omega arith) c.requires.1 _ (omega arith) c.unit_at-2.ensures

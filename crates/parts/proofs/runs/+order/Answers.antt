@@ -17,21 +17,21 @@ returns-then-b-2 t c = second_end c.if-a.false c.if-b-2.true
 
 pub compare-first-requires : goal.compare-first-requires
 compare-first-requires t c =
-    let x = c.requires.1.0.here in
-    let y = c.requires.1.1.here in
+    let x = c.requires.0.here in
+    let y = c.requires.1.here in
     (holds (run_head _ (apart c.if-a.false x) x).first-at, holds (run_head _ (apart c.if-b-2.false y) y).first-at)
 
 pub rest-x-requires : goal.rest-x-requires
-rest-x-requires t c = more_held (apart c.if-a.false c.requires.1.0.here) c.requires.1.0
+rest-x-requires t c = more_held (apart c.if-a.false c.requires.0.here) c.requires.0
 
 pub rest-y-requires : goal.rest-y-requires
-rest-y-requires t c = more_held (apart c.if-b-2.false c.requires.1.1.here) c.requires.1.1
+rest-y-requires t c = more_held (apart c.if-b-2.false c.requires.1.here) c.requires.1
 
 pub order-requires : goal.order-requires
 order-requires t c =
     let e = c.rest-x.ensures in
-    let z = c.requires.0 in
-    (omega arith, (rest_held c.if-a.false c.requires.1.0 c.rest-x.ensures, rest_held c.if-b-2.false c.requires.1.1 c.rest-y.ensures))
+    let z = c.decreases in
+    (omega arith, (rest_held c.if-a.false c.requires.0 c.rest-x.ensures, rest_held c.if-b-2.false c.requires.1 c.rest-y.ensures))
 
 pub returns-in-Lower : goal.returns-in-Lower
 returns-in-Lower t c = first_lower c.if-a.false c.if-b-2.false c.compare-first.ensures c.in-Lower.is
@@ -42,8 +42,3 @@ returns-in-Higher t c = first_higher c.if-a.false c.if-b-2.false c.compare-first
 pub returns-in-Same : goal.returns-in-Same
 returns-in-Same t c =
     first-same c.if-a.false c.if-b-2.false c.compare-first.ensures _ c.in-Same.is c.rest-x.ensures c.rest-y.ensures c.order.ensures
-
-+order-spec : {M : Type 1} → statement M
-+order-spec = close μ_order λ t. order_lts.spec (order_calls t) (order_at t) order.Post
-    (returns-then-b t) (returns-then-a t) (returns-then-b-2 t) (compare-first-requires t) (enum_told-1 t) (enum_told-in-Higher t) (enum_told-in-Same t)
-    (rest-x-requires t) (rest-y-requires t) (order-requires t) (returns-in-Lower t) (returns-in-Higher t) (returns-in-Same t)

@@ -1,7 +1,6 @@
 -- `set_operators::members::in_all` meets its contract: the answer from here on is the answer from the start on.
 use Prim.Native.Nat.{◌-◌}
 use native.Mathlib.Omega.{arith}
-use borrow.Author.Tests.{not-true, not-false}
 use Rattle.values.proofs.Records.{holds}
 use Rattle.set_operators.proofs.Testing.{test_start, test_fails, test_on, test_end, sets_start, sets_on, first_set, in_each, in_each_lem}
 use Rattle.set_operators.proofs.members.in_all.Goals as goal
@@ -15,7 +14,7 @@ contains-requires c =
 
 pub returns-then-not-contains : goal.returns-then-not-contains
 returns-then-not-contains c =
-    λ v ws a h. let y = first_set c.loop-p.invariant.1 (omega arith) c.requires.1 in test_fails (in_each c.args.s.now c.args.x) c.loop-p.invariant.0 (omega arith) (v, a) (in_each_lem c.contains.ensures (not-true _ c.if-not-contains.true) y.set_at (v, a)) ws h
+    λ v ws a h. let y = first_set c.loop-p.invariant.1 (omega arith) c.requires.1 in test_fails (in_each c.args.s.now c.args.x) c.loop-p.invariant.0 (omega arith) (v, a) (in_each_lem c.contains.ensures c.if-not-contains.true y.set_at (v, a)) ws h
 
 pub length_of-p-requires : goal.length_of-p-requires
 length_of-p-requires c = holds (first_set c.loop-p.invariant.1 (omega arith) c.requires.1).set_at
@@ -30,7 +29,7 @@ loop-p-smaller c =
 
 pub loop-p-preserved : goal.loop-p-preserved
 loop-p-preserved c =
-    let y = first_set c.loop-p.invariant.1 (omega arith) c.requires.1 in (test_on (in_each c.args.s.now c.args.x) c.loop-p.invariant.0 (omega arith) (in_each_lem c.contains.ensures (not-false _ c.if-not-contains.false) y.set_at) _ c.length_of-p.ensures.is, sets_on c.loop-p.invariant.1 (omega arith) _ c.length_of-p.ensures.is)
+    let y = first_set c.loop-p.invariant.1 (omega arith) c.requires.1 in (test_on (in_each c.args.s.now c.args.x) c.loop-p.invariant.0 (omega arith) (in_each_lem c.contains.ensures c.if-not-contains.false y.set_at) _ c.length_of-p.ensures.is, sets_on c.loop-p.invariant.1 (omega arith) _ c.length_of-p.ensures.is)
 
 pub returns : goal.returns
 returns c = λ v ws a h. test_end (in_each c.args.s.now c.args.x) c.loop-p.invariant.0 (omega arith) (v, a) ws h

@@ -1,7 +1,6 @@
 -- The tests of the code are those of the definition.
 use mathlib.Core.Path.{◌≡◌, sym, ◌∙◌}
 use native.Mathlib.Omega.{arith}
-use borrow.Author.Tests.{not-true, not-false}
 use Rattle.integers.specs.Bytes.{word}
 use Rattle.tables.proofs.Cutting.{bad, next_few, next_short, next_past, next_unfit, good}
 use Rattle.tables.proofs.Fit.{integer_fit}
@@ -38,8 +37,8 @@ returns-then-part-len c =
 
 pub returns-then-not-fit : goal.returns-then-not-fit
 returns-then-not-fit c =
-    bad c.args.part.now c.requires.part_nonzero (next_unfit c.args.part.now c.requires.part_nonzero c.if-part-lt-HEADING.false (omega (arith, c.read16-len.ensures.is)) (omega (arith, c.read16-len.ensures.is)) (sym c.is_fit-fit.ensures ∙ not-true _ c.if-not-fit.true))
+    bad c.args.part.now c.requires.part_nonzero (next_unfit c.args.part.now c.requires.part_nonzero c.if-part-lt-HEADING.false (omega (arith, c.read16-len.ensures.is)) (omega (arith, c.read16-len.ensures.is)) (sym c.is_fit-fit.ensures ∙ c.if-not-fit.true))
 
 pub returns : goal.returns
 returns c =
-    good c.args.part.now c.requires.part_nonzero c.read16-len.result c.read16-len.ensures.is c.if-part-lt-HEADING.false c.if-len-lt-HEADING.false c.if-part-len.false (sym c.is_fit-fit.ensures ∙ not-false _ c.if-not-fit.false)
+    good c.args.part.now c.requires.part_nonzero c.read16-len.result c.read16-len.ensures.is c.if-part-lt-HEADING.false c.if-len-lt-HEADING.false c.if-part-len.false (sym c.is_fit-fit.ensures ∙ c.if-not-fit.false)

@@ -13,4 +13,5 @@ pub returns-in-2 : goal.returns-in-2
 returns-in-2 c = rw c.in-2.is c.third_role.ensures
 
 pub returns-in_default : goal.returns-in_default
-returns-in_default c = sym (binder_later c.args.kind c.args.i c.in-0.rest.0.0.1 c.in-0.rest.0.1 c.in-0.rest.1)
+returns-in_default c =
+    sym (binder_later c.args.kind c.args.i c.in_default.rest.0.0.1 c.in_default.rest.0.1 c.in_default.rest.1)

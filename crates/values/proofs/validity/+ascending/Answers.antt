@@ -10,22 +10,22 @@ pub returns-then-from-to : goal.returns-then-from-to
 returns-then-from-to t c = ascending-none c.if-from-to.true
 
 pub length_of-requires : goal.length_of-requires
-length_of-requires t c = first_held c.if-from-to.false c.requires.1
+length_of-requires t c = first_held c.if-from-to.false c.requires
 
 pub overflow_add-next : goal.overflow_add-next
 overflow_add-next t c =
-    let h = c.requires.1.1.fits in let i = rest_inside c.if-from-to.false c.length_of.ensures c.requires.1 in omega arith
+    let h = c.requires.1.fits in let i = rest_inside c.if-from-to.false c.length_of.ensures c.requires in omega arith
 
 pub returns-then-next-to : goal.returns-then-next-to
 returns-then-next-to t c = ascending_one c.if-from-to.false c.length_of.ensures c.if-next-to.true
 
 pub compare-o-requires : goal.compare-o-requires
 compare-o-requires t c =
-    (first_held c.if-from-to.false c.requires.1, first_held c.if-next-to.false (rest_items c.if-from-to.false c.length_of.ensures c.requires.1))
+    (first_held c.if-from-to.false c.requires, first_held c.if-next-to.false (rest_items c.if-from-to.false c.length_of.ensures c.requires))
 
 pub ascending-requires : goal.ascending-requires
 ascending-requires t c =
-    let i = rest_inside c.if-from-to.false c.length_of.ensures c.requires.1 in let l = c.length_of.ensures.low in (omega arith, rest_items c.if-from-to.false c.length_of.ensures c.requires.1)
+    let i = rest_inside c.if-from-to.false c.length_of.ensures c.requires in let l = c.length_of.ensures.low in (omega arith, rest_items c.if-from-to.false c.length_of.ensures c.requires)
 
 pub returns-in-Lower : goal.returns-in-Lower
 returns-in-Lower t c =
@@ -38,20 +38,3 @@ returns-in-Same t c =
 pub returns-in-Higher : goal.returns-in-Higher
 returns-in-Higher t c =
     ascending_off c.if-from-to.false c.length_of.ensures c.if-next-to.false c.compare-o.ensures (higher_not c.in-Higher.is)
-
-+ascending-spec : {M : Type 1} → statement M
-+ascending-spec = close μ_ascending λ t. ascending_lts.spec (ascending_calls t)
-    (ascending_at t)
-    ascending.Post
-    (returns-then-from-to t)
-    (length_of-requires t)
-    (overflow_add-next t)
-    (returns-then-next-to t)
-    (compare-o-requires t)
-    (enum_told-1 t)
-    (ascending-requires t)
-    (enum_told-in-Same t)
-    (enum_told-in-Higher t)
-    (returns-in-Lower t)
-    (returns-in-Same t)
-    (returns-in-Higher t)

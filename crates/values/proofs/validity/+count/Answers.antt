@@ -10,30 +10,19 @@ pub returns-then-from-to : goal.returns-then-from-to
 returns-then-from-to t c = count_none c.if-from-to.true
 
 pub length_of-requires : goal.length_of-requires
-length_of-requires t c = first_held c.if-from-to.false c.requires.1
+length_of-requires t c = first_held c.if-from-to.false c.requires
 
 pub overflow_add-next : goal.overflow_add-next
 overflow_add-next t c =
-    let h = c.requires.1.1.fits in let i = rest_inside c.if-from-to.false c.length_of.ensures c.requires.1 in omega arith
+    let h = c.requires.1.fits in let i = rest_inside c.if-from-to.false c.length_of.ensures c.requires in omega arith
 
 pub count-requires : goal.count-requires
 count-requires t c =
-    let i = rest_inside c.if-from-to.false c.length_of.ensures c.requires.1 in let l = c.length_of.ensures.low in (omega arith, rest_items c.if-from-to.false c.length_of.ensures c.requires.1)
+    let i = rest_inside c.if-from-to.false c.length_of.ensures c.requires in let l = c.length_of.ensures.low in (omega arith, rest_items c.if-from-to.false c.length_of.ensures c.requires)
 
 pub overflow_add-result : goal.overflow_add-result
 overflow_add-result t c =
-    let h = items_few (rest_items c.if-from-to.false c.length_of.ensures c.requires.1) c.count.ensures in omega arith
+    let h = items_few (rest_items c.if-from-to.false c.length_of.ensures c.requires) c.count.ensures in omega arith
 
 pub returns : goal.returns
 returns t c = count_more c.if-from-to.false c.length_of.ensures c.count.ensures
-
-+count-spec : {M : Type 1} → statement M
-+count-spec = close μ_count λ t. count_lts.spec (count_calls t)
-    (count_at t)
-    count.Post
-    (returns-then-from-to t)
-    (length_of-requires t)
-    (overflow_add-next t)
-    (count-requires t)
-    (overflow_add-result t)
-    (returns t)

@@ -10,21 +10,21 @@ pub returns-then-from-to : goal.returns-then-from-to
 returns-then-from-to t c = entries_none c.if-from-to.true
 
 pub length_of-requires : goal.length_of-requires
-length_of-requires t c = first_held c.if-from-to.false c.requires.1
+length_of-requires t c = first_held c.if-from-to.false c.requires
 
 pub overflow_add-value : goal.overflow_add-value
 overflow_add-value t c =
-    let h = c.requires.1.1.fits in let i = rest_inside c.if-from-to.false c.length_of.ensures c.requires.1 in omega arith
+    let h = c.requires.1.fits in let i = rest_inside c.if-from-to.false c.length_of.ensures c.requires in omega arith
 
 pub returns-then-value-to : goal.returns-then-value-to
 returns-then-value-to t c = entries_half c.if-from-to.false c.length_of.ensures c.if-value-to.true
 
 pub length_of-requires-2 : goal.length_of-requires-2
-length_of-requires-2 t c = first_held c.if-value-to.false (rest_items c.if-from-to.false c.length_of.ensures c.requires.1)
+length_of-requires-2 t c = first_held c.if-value-to.false (rest_items c.if-from-to.false c.length_of.ensures c.requires)
 
 pub overflow_add-next : goal.overflow_add-next
 overflow_add-next t c =
-    let h = c.requires.1.1.fits in let i = rest_inside c.if-value-to.false c.length_of-2.ensures (rest_items c.if-from-to.false c.length_of.ensures c.requires.1) in omega arith
+    let h = c.requires.1.fits in let i = rest_inside c.if-value-to.false c.length_of-2.ensures (rest_items c.if-from-to.false c.length_of.ensures c.requires) in omega arith
 
 pub returns-then-next-to : goal.returns-then-next-to
 returns-then-next-to t c =
@@ -32,11 +32,11 @@ returns-then-next-to t c =
 
 pub compare-o-requires : goal.compare-o-requires
 compare-o-requires t c =
-    (first_held c.if-from-to.false c.requires.1, first_held c.if-next-to.false (rest_items c.if-value-to.false c.length_of-2.ensures (rest_items c.if-from-to.false c.length_of.ensures c.requires.1)))
+    (first_held c.if-from-to.false c.requires, first_held c.if-next-to.false (rest_items c.if-value-to.false c.length_of-2.ensures (rest_items c.if-from-to.false c.length_of.ensures c.requires)))
 
 pub entries-requires : goal.entries-requires
 entries-requires t c =
-    let h = rest_items c.if-from-to.false c.length_of.ensures c.requires.1 in let i = rest_inside c.if-value-to.false c.length_of-2.ensures h in let l = c.length_of.ensures.low in (omega arith, rest_items c.if-value-to.false c.length_of-2.ensures h)
+    let h = rest_items c.if-from-to.false c.length_of.ensures c.requires in let i = rest_inside c.if-value-to.false c.length_of-2.ensures h in let l = c.length_of.ensures.low in (omega arith, rest_items c.if-value-to.false c.length_of-2.ensures h)
 
 pub returns-in-Lower : goal.returns-in-Lower
 returns-in-Lower t c =
@@ -49,23 +49,3 @@ returns-in-Same t c =
 pub returns-in-Higher : goal.returns-in-Higher
 returns-in-Higher t c =
     entries_off c.if-from-to.false c.length_of.ensures c.if-value-to.false c.length_of-2.ensures c.if-next-to.false c.compare-o.ensures (higher_not c.in-Higher.is)
-
-+entries-spec : {M : Type 1} → statement M
-+entries-spec = close μ_entries λ t. entries_lts.spec (entries_calls t)
-    (entries_at t)
-    entries.Post
-    (returns-then-from-to t)
-    (length_of-requires t)
-    (overflow_add-value t)
-    (returns-then-value-to t)
-    (length_of-requires-2 t)
-    (overflow_add-next t)
-    (returns-then-next-to t)
-    (compare-o-requires t)
-    (enum_told-1 t)
-    (entries-requires t)
-    (enum_told-in-Same t)
-    (enum_told-in-Higher t)
-    (returns-in-Lower t)
-    (returns-in-Same t)
-    (returns-in-Higher t)

@@ -1,5 +1,5 @@
 -- The proof of the cycle of calls {valid, valid_items}. The measures are twice the bytes from the place on, and one more for the items.
-use Prim.Native.Nat.{◌+◌, ◌-◌}
+use Prim.Native.Nat.{◌-◌}
 use mathlib.Core.Path.{sym, ◌∙◌}
 use native.Mathlib.Omega.{arith}
 use Rattle.values.proofs.Telling.{tells_false}
@@ -36,15 +36,15 @@ valid-boolean-requires t c =
 
 pub valid-returns-then-kind-eq-BOOLEAN : goal.valid-returns-then-kind-eq-BOOLEAN
 valid-returns-then-kind-eq-BOOLEAN t c =
-    ends_there (record { span = c.requires.1; len = c.read16-n.ensures.is; low = omega arith; inside = omega arith }) c.boolean.ensures
+    ends_there (record { span = c.requires; len = c.read16-n.ensures.is; low = omega arith; inside = omega arith }) c.boolean.ensures
 
 pub valid-returns-then-kind-eq-INTEGER : goal.valid-returns-then-kind-eq-INTEGER
 valid-returns-then-kind-eq-INTEGER t c =
-    integer_told c.type_inv.s (record { span = c.requires.1; len = c.read16-n.ensures.is; low = omega arith; inside = omega arith }) c.read16-kind.ensures c.if-kind-eq-INTEGER.true
+    integer_told c.type_inv.s (record { span = c.requires; len = c.read16-n.ensures.is; low = omega arith; inside = omega arith }) c.read16-kind.ensures c.if-kind-eq-INTEGER.true
 
 pub valid-returns-then-kind-eq-QUOTE : goal.valid-returns-then-kind-eq-QUOTE
 valid-returns-then-kind-eq-QUOTE t c =
-    quote_told c.type_inv.s (record { span = c.requires.1; len = c.read16-n.ensures.is; low = omega arith; inside = omega arith }) c.read16-kind.ensures c.if-kind-eq-QUOTE.true
+    quote_told c.type_inv.s (record { span = c.requires; len = c.read16-n.ensures.is; low = omega arith; inside = omega arith }) c.read16-kind.ensures c.if-kind-eq-QUOTE.true
 
 pub valid-overflow_add-at-2 : goal.valid-overflow_add-at-2
 valid-overflow_add-at-2 t c = omega arith
@@ -66,17 +66,17 @@ valid-shaped-requires t c = c.valid_items.ensures.sound c.if-valid_items.true
 
 pub valid-returns-then-valid_items : goal.valid-returns-then-valid_items
 valid-returns-then-valid_items t c =
-    collection_told c.type_inv.s (record { span = c.requires.1; len = c.read16-n.ensures.is; low = omega arith; inside = omega arith }) c.read16-kind.ensures c.if-kind-eq-BOOLEAN.false c.if-kind-eq-INTEGER.false c.if-kind-eq-QUOTE.false (c.valid_items.ensures.sound c.if-valid_items.true) c.shaped.ensures
+    collection_told c.type_inv.s (record { span = c.requires; len = c.read16-n.ensures.is; low = omega arith; inside = omega arith }) c.read16-kind.ensures c.if-kind-eq-BOOLEAN.false c.if-kind-eq-INTEGER.false c.if-kind-eq-QUOTE.false (c.valid_items.ensures.sound c.if-valid_items.true) c.shaped.ensures
 
 pub valid-returns : goal.valid-returns
 valid-returns t c =
-    items_missing c.type_inv.s (record { span = c.requires.1; len = c.read16-n.ensures.is; low = omega arith; inside = omega arith }) c.read16-kind.ensures c.if-kind-eq-BOOLEAN.false c.if-kind-eq-INTEGER.false c.if-kind-eq-QUOTE.false c.valid_items.ensures c.if-valid_items.false
+    items_missing c.type_inv.s (record { span = c.requires; len = c.read16-n.ensures.is; low = omega arith; inside = omega arith }) c.read16-kind.ensures c.if-kind-eq-BOOLEAN.false c.if-kind-eq-INTEGER.false c.if-kind-eq-QUOTE.false c.valid_items.ensures c.if-valid_items.false
 
 pub valid_items-returns-then-at-to : goal.valid_items-returns-then-at-to
-valid_items-returns-then-at-to t c = items_end c.requires.1 c.if-at-to.true
+valid_items-returns-then-at-to t c = items_end c.requires c.if-at-to.true
 
 pub valid_items-valid-requires : goal.valid_items-valid-requires
-valid_items-valid-requires t c = (omega arith, c.requires.1)
+valid_items-valid-requires t c = (omega arith, c.requires)
 
 pub valid_items-read16-n-requires : goal.valid_items-read16-n-requires
 valid_items-read16-n-requires t c = let i = c.valid.ensures.sound c.if-valid.true in omega arith
@@ -90,49 +90,7 @@ valid_items-valid_items-requires t c =
 
 pub valid_items-returns-then-valid : goal.valid_items-returns-then-valid
 valid_items-returns-then-valid t c =
-    items_told c.requires.1 c.if-at-to.false (c.valid.ensures.sound c.if-valid.true) c.read16-n.ensures c.valid_items.ensures
+    items_told c.requires c.if-at-to.false (c.valid.ensures.sound c.if-valid.true) c.read16-n.ensures c.valid_items.ensures
 
 pub valid_items-returns : goal.valid_items-returns
 valid_items-returns t c = items_first c.if-at-to.false c.valid.ensures c.if-valid.false
-
-+valid-valid-items-spec : {M : Type 1} → statement M
-+valid-valid-items-spec = close μ_valid μ_valid_items (λ t. valid_lts.spec (valid_calls t)
-    (valid_at t)
-    valid.Post
-    (valid-overflow_sub-to t)
-    (valid-returns-then-to-at-lt-HEAD t)
-    (valid-read16-n-requires t)
-    (valid-returns-then-n-lt-HEAD t)
-    (valid-overflow_sub-to-2 t)
-    (valid-returns-then-to-at t)
-    (valid-overflow_add-at t)
-    (valid-read16-kind-requires t)
-    (valid-boolean-requires t)
-    (valid-returns-then-kind-eq-BOOLEAN t)
-    (valid-returns-then-kind-eq-INTEGER t)
-    (valid-returns-then-kind-eq-QUOTE t)
-    (valid-overflow_add-at-2 t)
-    (valid-overflow_add-at-3 t)
-    (valid-valid_items-requires t)
-    (valid-overflow_add-at-then-valid_items t)
-    (valid-overflow_add-at-then-valid_items-2 t)
-    (valid-shaped-requires t)
-    (valid-returns-then-valid_items t)
-    (valid-returns t))
-    λ t. valid_items_lts.spec (
-      valid_below t,
-      valid.Post,
-      read16_reads.Asked,
-      read16_reads.Learnt,
-      valid_items_below t,
-      valid_items.Post,
-    )
-    (valid_items_at t)
-    valid_items.Post
-    (valid_items-returns-then-at-to t)
-    (valid_items-valid-requires t)
-    (valid_items-read16-n-requires t)
-    (valid_items-overflow_add-at t)
-    (valid_items-valid_items-requires t)
-    (valid_items-returns-then-valid t)
-    (valid_items-returns t)
