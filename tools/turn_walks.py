@@ -146,6 +146,8 @@ class Names:
             return ["type_inv", self.typed[first], *comps[2:]]
         new = self.fields.get(first)
         if new:
+            if first.startswith("match") and re.match(r"rest|keys", comps[1] if len(comps) > 1 else ""):
+                new += "-own"
             comps = [new, *comps[1:]]
             if len(comps) > 1 and comps[1] == "res":
                 comps[1] = "result"

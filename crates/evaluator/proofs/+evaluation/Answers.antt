@@ -178,7 +178,7 @@ binder-single-requires-in-17 t c =
 
 pub binder-collect-requires : goal.binder-collect-requires
 binder-collect-requires t c =
-    (omega (arith, c.decreases), (c.requires.0, c.requires.1, from_eighteen c.in_default-1.rest c.if-k-lt16.false c.if-k-lt21.true))
+    (omega (arith, c.decreases), (c.requires.0, c.requires.1, from_eighteen c.in_default-1-own.rest c.if-k-lt16.false c.if-k-lt21.true))
 
 pub binder-returns-in-12 : goal.binder-returns-in-12
 binder-returns-in-12 t c = c.let_in.ensures
@@ -197,7 +197,7 @@ binder-returns-in-18 t c = c.collect.ensures
 
 pub binder-returns-in_default : goal.binder-returns-in_default
 binder-returns-in_default t c =
-    eval_last c.requires.0 (sym c.requires.1) (unmatched c.requires.2 (c.is_quantifier.ensures.no c.if-is_quantifier.false) c.in_default-1.rest (⊎_elim (λ x. inl x.taken) (λ x. inr x.1.left) c.in_default.branch)) c.refusal.ensures
+    eval_last c.requires.0 (sym c.requires.1) (unmatched c.requires.2 (c.is_quantifier.ensures.no c.if-is_quantifier.false) c.in_default-1-own.rest (⊎_elim (λ x. inl x.taken) (λ x. inr x.1.left) c.in_default.branch)) c.refusal.ensures
 
 pub plain::branch-operand_from-a-requires : goal.plain::branch-operand_from-a-requires
 plain::branch-operand_from-a-requires t c = (if_test c.requires.0 c.requires.1, plain_first c.requires.1 (omega arith) (omega arith))
@@ -393,7 +393,7 @@ eval-quote-requires t c = (c.requires, sym c.kind-k.ensures.0 ∙ c.in-22.is)
 
 pub eval-binder-requires : goal.eval-binder-requires
 eval-binder-requires t c =
-    (omega (arith, c.decreases), (c.requires, sym c.kind-k.ensures.0, left_over c.in_default-1.rest (⊎_elim (λ x. inl x.taken) (λ x. inr x.1.left) c.in_default.branch)))
+    (omega (arith, c.decreases), (c.requires, sym c.kind-k.ensures.0, left_over c.in_default-1-own.rest (⊎_elim (λ x. inl x.taken) (λ x. inr x.1.left) c.in_default.branch)))
 
 pub eval-items-requires : goal.eval-items-requires
 eval-items-requires t c =
@@ -572,7 +572,7 @@ let_be-shape_of-s-in_default t c = c.survey-v.ensures.kept.long
 
 pub let_be-returns-in_default : goal.let_be-returns-in_default
 let_be-returns-in_default t c =
-    let_be_unchosen c.requires.0 c.requires.1 c.survey-v.ensures (valued c.survey-v.result.word c.is_refusal.ensures c.if-is_refusal.false) c.if-n-eq0.false c.choose-a.ensures (not_taken c.choose-a.result c.in_default.keys2) c.unchosen.ensures
+    let_be_unchosen c.requires.0 c.requires.1 c.survey-v.ensures (valued c.survey-v.result.word c.is_refusal.ensures c.if-is_refusal.false) c.if-n-eq0.false c.choose-a.ensures (not_taken c.choose-a.result c.in_default-own.keys2) c.unchosen.ensures
 
 pub let_be-inside-q-requires : goal.let_be-inside-q-requires
 let_be-inside-q-requires t c =
@@ -634,7 +634,7 @@ let_in-shape_of-s-in_default t c = c.begin-o.ensures.kept.long
 
 pub let_in-returns-in_default : goal.let_in-returns-in_default
 let_in-returns-in_default t c =
-    let_in_unchosen c.requires.0 c.requires.1 c.begin-o.ensures (valued c.begin-o.result c.is_refusal.ensures c.if-is_refusal.false) c.if-n-eq0.false (picks_as c.requires.0 c.requires.1 c.operand_from-p.ensures.0 c.is_loose_pattern-loose.ensures c.decide-a.ensures) (not_taken c.decide-a.result c.in_default.keys2) c.unchosen.ensures
+    let_in_unchosen c.requires.0 c.requires.1 c.begin-o.ensures (valued c.begin-o.result c.is_refusal.ensures c.if-is_refusal.false) c.if-n-eq0.false (picks_as c.requires.0 c.requires.1 c.operand_from-p.ensures.0 c.is_loose_pattern-loose.ensures c.decide-a.ensures) (not_taken c.decide-a.result c.in_default-own.keys2) c.unchosen.ensures
 
 pub let_in-inside-q-requires : goal.let_in-inside-q-requires
 let_in-inside-q-requires t c =

@@ -14,4 +14,4 @@ returns-in-27 c = binary_as _ c.in-27.is c.restrict_domain.ensures
 
 pub returns-in_default : goal.returns-in_default
 returns-in_default c =
-    let r = c.in_default.rest in binary_as _ (is_range_restriction c.requires.2 c.requires.1 r.0.0.1 r.0.1 r.1) c.restrict_range.ensures
+    let r = c.in_default-own.rest in binary_as _ (is_range_restriction c.requires.2 c.requires.1 r.0.0.1 r.0.1 r.1) c.restrict_range.ensures

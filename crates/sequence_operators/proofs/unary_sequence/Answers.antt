@@ -64,4 +64,4 @@ returns-in-12 c =
 pub returns-in_default : goal.returns-in_default
 unfolding unary
 returns-in_default c =
-    let r = c.in_default.rest in on_unary {m = 13} (is_reverse c.requires.2 c.requires.1 r.0.0.0.0.0.1 r.0.0.0.0.1 r.0.0.0.1 r.0.0.1 r.0.1 r.1) (λ v. refl) (has sequence c.requires.0 c.kind_of-kind.ensures c.if-kind-ne-SEQUENCE.false) c.reverse.ensures
+    let r = c.in_default-own.rest in on_unary {m = 13} (is_reverse c.requires.2 c.requires.1 r.0.0.0.0.0.1 r.0.0.0.0.1 r.0.0.0.1 r.0.0.1 r.0.1 r.1) (λ v. refl) (has sequence c.requires.0 c.kind_of-kind.ensures c.if-kind-ne-SEQUENCE.false) c.reverse.ensures

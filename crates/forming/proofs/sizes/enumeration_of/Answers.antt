@@ -9,4 +9,4 @@ pub returns-in-42 : goal.returns-in-42
 returns-in-42 c = rw c.in-42.is
 
 pub returns-in_default : goal.returns-in_default
-returns-in_default c = rw (ne_eqb c.args.k 38 c.in_default.rest.0.1, ne_eqb c.args.k 42 c.in_default.rest.1)
+returns-in_default c = rw (ne_eqb c.args.k 38 c.in_default-own.rest.0.1, ne_eqb c.args.k 42 c.in_default-own.rest.1)
