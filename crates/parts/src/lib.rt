@@ -120,7 +120,7 @@ pub fn order_parts(s: &[u8], p: Part, q: Part) -> Order
 // The order of the values that two parts denote which are not both whole records: by kind, and then item by item.
 fn order_kinds(s: &[u8], p: Part, q: Part) -> Order
     requires part_held { PartHeld s.now p × PartHeld s.now q }
-    requires fact { p.how ≡ 1 → q.how ≡ 1 → ⊥ }
+    requires not_both_whole { p.how ≡ 1 → q.how ≡ 1 → ⊥ }
     ensures { OrderedParts s.now p q result }
 {
     let kp = kind_of_part(s, p);

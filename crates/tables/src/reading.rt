@@ -38,8 +38,8 @@ const INTEGER_HEADING: usize = INTEGER_LENGTH + 65536 * kinds::INTEGER;
 
 // The length of the record at the start of the part; 0 where rule 4 finds a fault.
 pub fn measure(lengths: &Lengths, part: &[u8]) -> usize
-    requires lengths_value { lengths.now ≡ length_rows }
-    requires part_nonzero { 0 < length part.now }
+    requires lengths_known { lengths.now ≡ length_rows }
+    requires not_empty { 0 < length part.now }
     ensures { Measured part.now result }
 {
     if part.len() < HEADING {

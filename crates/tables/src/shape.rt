@@ -177,8 +177,8 @@ pub fn is_loose(kind: usize) -> bool
 
 // The length is fit for the kind.
 pub fn fits_kind(lengths: &Lengths, kind: usize, len: usize) -> bool
-    requires lengths_value { lengths.now ≡ length_rows }
-    requires kind_le_last_kind { (kind ≤ last_kind) × (4 ≤ len) }
+    requires lengths_known { lengths.now ≡ length_rows }
+    requires kind_known { (kind ≤ last_kind) × (4 ≤ len) }
     ensures { result ≡ fits (shape kind) (len - 4) }
 {
     if LONGEST < len {
@@ -283,8 +283,8 @@ fn is_tested(kind: usize) -> bool
 
 // The record of this kind and length at the start of the part is fit for its kind.
 pub fn is_fit(lengths: &Lengths, part: &[u8], kind: usize, len: usize) -> bool
-    requires lengths_value { lengths.now ≡ length_rows }
-    requires kind_value { (kind ≡ word part.now 2) × (len ≡ word part.now 0) × (4 ≤ len) × (len ≤ length part.now) }
+    requires lengths_known { lengths.now ≡ length_rows }
+    requires head_read { (kind ≡ word part.now 2) × (len ≡ word part.now 0) × (4 ≤ len) × (len ≤ length part.now) }
     ensures { result ≡ is_fit (first_record part.now) }
 {
     if kinds::LAST < kind {

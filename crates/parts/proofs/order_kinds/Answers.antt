@@ -17,16 +17,16 @@ returns-then-kq-kp c = kinds_higher c.kind_of_part-kp.ensures c.kind_of_part-kq.
 
 pub run_of-a-requires : goal.run_of-a-requires
 run_of-a-requires c =
-    let (i, k) = kinds_collection c.kind_of_part-kp.ensures c.kind_of_part-kq.ensures c.requires.part_held.0 c.requires.part_held.1 c.requires.fact (omega arith) in collection_held i c.kind_of_part-kp.ensures k c.requires.part_held.0
+    let (i, k) = kinds_collection c.kind_of_part-kp.ensures c.kind_of_part-kq.ensures c.requires.part_held.0 c.requires.part_held.1 c.requires.not_both_whole (omega arith) in collection_held i c.kind_of_part-kp.ensures k c.requires.part_held.0
 
 pub run_of-b-requires : goal.run_of-b-requires
 run_of-b-requires c =
-    let (i, k) = kinds_collection c.kind_of_part-kp.ensures c.kind_of_part-kq.ensures c.requires.part_held.0 c.requires.part_held.1 c.requires.fact (omega arith) in collection_held i c.kind_of_part-kq.ensures (omega arith) c.requires.part_held.1
+    let (i, k) = kinds_collection c.kind_of_part-kp.ensures c.kind_of_part-kq.ensures c.requires.part_held.0 c.requires.part_held.1 c.requires.not_both_whole (omega arith) in collection_held i c.kind_of_part-kq.ensures (omega arith) c.requires.part_held.1
 
 pub order-requires : goal.order-requires
 order-requires c =
-    let (i, k) = kinds_collection c.kind_of_part-kp.ensures c.kind_of_part-kq.ensures c.requires.part_held.0 c.requires.part_held.1 c.requires.fact (omega arith) in (run_held (collection_held i c.kind_of_part-kp.ensures k c.requires.part_held.0) c.run_of-a.ensures, run_held (collection_held i c.kind_of_part-kq.ensures (omega arith) c.requires.part_held.1) c.run_of-b.ensures)
+    let (i, k) = kinds_collection c.kind_of_part-kp.ensures c.kind_of_part-kq.ensures c.requires.part_held.0 c.requires.part_held.1 c.requires.not_both_whole (omega arith) in (run_held (collection_held i c.kind_of_part-kp.ensures k c.requires.part_held.0) c.run_of-a.ensures, run_held (collection_held i c.kind_of_part-kq.ensures (omega arith) c.requires.part_held.1) c.run_of-b.ensures)
 
 pub returns : goal.returns
 returns c =
-    runs_order c.kind_of_part-kp.ensures c.kind_of_part-kq.ensures (kinds_collection c.kind_of_part-kp.ensures c.kind_of_part-kq.ensures c.requires.part_held.0 c.requires.part_held.1 c.requires.fact (omega arith)) (omega arith) c.run_of-a.ensures c.run_of-b.ensures c.order.ensures
+    runs_order c.kind_of_part-kp.ensures c.kind_of_part-kq.ensures (kinds_collection c.kind_of_part-kp.ensures c.kind_of_part-kq.ensures c.requires.part_held.0 c.requires.part_held.1 c.requires.not_both_whole (omega arith)) (omega arith) c.run_of-a.ensures c.run_of-b.ensures c.order.ensures

@@ -19,9 +19,9 @@ use Rattle.tables.proofs.Rules.Tells.{Tells, tells_by, tells_as, tells_or, tells
 use Rattle.tables.proofs.Rules.Naming.{tells_named}
 
 -- What lies below a record has its operands below it too.
-pub within_operand : (rs : List Record) (a q i r : ℕ) → Within rs q a → Names rs q i r → Within rs r a
-within_operand rs a q i r itself o = below i r o itself
-within_operand rs a q i r (below j n p w) o = below j n p (within_operand rs n q i r w o)
+pub within_operand : (rs : List Record) (q a i r : ℕ) → Within rs q a → Names rs q i r → Within rs r a
+within_operand rs q a i r itself o = below i r o itself
+within_operand rs q a i r (below j n p w) o = below j n p (within_operand rs q n i r w o)
 
 module _ (rs : List Record) (clear6 : Clear6 rs) where
   pub names_lower : (q i n : ℕ) → Names rs q i n → n < q
@@ -75,7 +75,7 @@ module _ (rs : List Record) (clear6 : Clear6 rs) where
         ⊎_elim (λ f. (q, i, r, o, f, itself))
         (λ f.
         let (s, j, n, p, g, w) = reach bound q (omega (arith, names_lower q i r o)) o.is_record f in
-        (s, j, n, p, g, within_operand rs n q i r w o))
+        (s, j, n, p, g, within_operand rs q n i r w o))
         (or_cases (place q i) (test q) (sym (step_names q i r o) ∙ e)))
         (λ l. never (sym (top r (omega arith)) ∙ e))
 

@@ -132,7 +132,7 @@ module _ (rs : List Record) (clear6 : Clear6 rs) where
         by_test (is_pattern (kind_at rs q))
         (λ f.
         let (b, x) = binder bound q (omega (arith, names_lower rs clear6 q i r o)) o.is_record ((patterns (shape (kind_at rs q)).sort).yes f) in
-        (b, record { its_pattern = x.its_pattern; first = x.first; binds = x.binds; is_pattern = x.is_pattern; around = within_operand rs x.its_pattern q i r x.around o }))
+        (b, record { its_pattern = x.its_pattern; first = x.first; binds = x.binds; is_pattern = x.is_pattern; around = within_operand rs q x.its_pattern i r x.around o }))
         (λ f.
         let same : i ≡ 0 = only_first (record_at rs q) i (kind_at rs r) (fit q o.is_record) f o.is_operand (sort_of q i r o) e in
         (q, record { its_pattern = r; first = rw same at o; binds = (expressions (shape (kind_at rs q)).sort).yes (fit_expression (record_at rs q) (fit q o.is_record) f); is_pattern = e; around = itself })))

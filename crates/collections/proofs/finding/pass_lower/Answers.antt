@@ -1,4 +1,5 @@
 -- `collections::finding::pass_lower` meets its contract: what is found from here on is what is found from the start on.
+use mir.Syntax.{w32}
 use mathlib.Core.Path.{sym, ap, ◌∙◌}
 use mathlib.Core.Bool.{true, false}
 use Prim.Native.Nat.{ℕ, ◌+◌, ◌-◌}
@@ -47,7 +48,7 @@ loop-p-smaller c = omega (arith, c.loop-p-test.true)
 
 pub loop-p-preserved : goal.loop-p-preserved
 loop-p-preserved c =
-    (c.loop-p.invariant.0, look_higher c.loop-p.invariant.1 (omega (arith, c.loop-p-test.true, c.loop-p.invariant.0)) c.integer_at-z.ensures c.integer_at-y.ensures (to_z-of_z (record { sfits = c.integer_at-z.type_inv })) (to_z-of_z (record { sfits = c.integer_at-y.type_inv })) c.compare-o.ensures c.in-Higher.is)
+    (c.loop-p.invariant.0, look_higher c.loop-p.invariant.1 (omega (arith, c.loop-p-test.true, c.loop-p.invariant.0)) c.integer_at-z.ensures c.integer_at-y.ensures (to_z-of_z {w = w32} (record { sfits = c.integer_at-z.type_inv })) (to_z-of_z {w = w32} (record { sfits = c.integer_at-y.type_inv })) c.compare-o.ensures c.in-Higher.is)
 
 pub returns : goal.returns
 returns c = looks_on c.loop-p.invariant.1

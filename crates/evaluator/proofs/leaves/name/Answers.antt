@@ -1,3 +1,4 @@
+use mir.Syntax.{w32}
 use mathlib.Core.Path.{sym, ◌∙◌}
 use native.Mathlib.Omega.{arith}
 use mir.Facts.{to_z-of_z}
@@ -26,11 +27,11 @@ integer_at-z-requires c =
 
 pub put_integer-requires : goal.put_integer-requires
 put_integer-requires c =
-    (omega (arith, room_here c.requires.0), whole_range (to_z-of_z (record { sfits = c.integer_at-z.type_inv })) c.integer_at-z.ensures)
+    (omega (arith, room_here c.requires.0), whole_range (to_z-of_z {w = w32} (record { sfits = c.integer_at-z.type_inv })) c.integer_at-z.ensures)
 
 pub returns-then-kind_of-eq-INTEGER : goal.returns-then-kind_of-eq-INTEGER
 returns-then-kind_of-eq-INTEGER c =
-    part_number c.requires.0 c.requires.1 c.field-x.ensures.0 c.unpack-part.ensures c.if-part-eq-WHOLE.true (to_z-of_z (record { sfits = c.integer_at-z.type_inv })) c.integer_at-z.ensures c.put_integer.ensures
+    part_number c.requires.0 c.requires.1 c.field-x.ensures.0 c.unpack-part.ensures c.if-part-eq-WHOLE.true (to_z-of_z {w = w32} (record { sfits = c.integer_at-z.type_inv })) c.integer_at-z.ensures c.put_integer.ensures
 
 pub put_part-requires : goal.put_part-requires
 put_part-requires c =

@@ -2,10 +2,10 @@
 use mathlib.Core.Path.{refl}
 use Prim.Native.Nat.{◌-◌}
 use native.Mathlib.Omega.{arith}
-use mathlib.Core.Logic.{⊎_elim}
 use lib.ListN.{length-drop}
 use Rattle.tables.proofs.Cutting.{part-rest, measured, measured_within, next_long, noted, not_noted, cutting_start, cutting_end, turn_bad, cutting_more}
 use Rattle.tables.proofs.reading.cut.Goals as goal
+use Rattle.tables.proofs.reading.cut.Goals.{then-count-lt-MOST_RECORDS, else-count-lt-MOST_RECORDS}
 
 pub loop-at-init : goal.loop-at-init
 loop-at-init c = (cutting_start _ _ c.requires.1, refl)
@@ -15,7 +15,10 @@ slice_bounds-measure-count c = omega (arith, c.loop-at.invariant.0.within)
 
 pub measure-len-requires : goal.measure-len-requires
 measure-len-requires c =
-    (c.loop-at.invariant.1, rw (part-rest c.args.table.now c.loop-at.at) (omega (arith, length-drop c.loop-at.at c.args.table.now)))
+    record {
+      lengths_known = c.loop-at.invariant.1;
+      not_empty = rw (part-rest c.args.table.now c.loop-at.at) (omega (arith, length-drop c.loop-at.at c.args.table.now));
+    }
 
 pub returns-then-len-eq0 : goal.returns-then-len-eq0
 returns-then-len-eq0 c =
@@ -52,10 +55,10 @@ pub loop-at-preserved : goal.loop-at-preserved
 loop-at-preserved c =
     let m = measured c.args.table.now c.loop-at.at c.measure-len.result c.measure-len.ensures in (
       cutting_more c.args.table.now c.loop-at.index c.loop-at.at c.loop-at.count c.loop-at.invariant.0 c.loop-at-test.true c.measure-len.result c.if-count-lt-MOST_RECORDS.index (m.good (omega (arith, c.if-len-eq0.false))) (m.long (omega (arith, c.if-len-eq0.false)))
-          (⊎_elim
-          (λ w. noted c.args.table.now c.loop-at.index c.if-count-lt-MOST_RECORDS.index c.loop-at.count c.loop-at.at c.measure-len.result c.entry-e.result c.loop-at.invariant.0.long c.entry-e.ensures w.1)
-          (λ w. not_noted c.args.table.now c.loop-at.index c.if-count-lt-MOST_RECORDS.index c.loop-at.count c.loop-at.at c.measure-len.result c.loop-at.invariant.0.long w.1 w.0.left)
-          c.if-count-lt-MOST_RECORDS.branch),
+          (elim c.if-count-lt-MOST_RECORDS.branch [
+            then-count-lt-MOST_RECORDS w ↦ noted c.args.table.now c.loop-at.index c.if-count-lt-MOST_RECORDS.index c.loop-at.count c.loop-at.at c.measure-len.result c.entry-e.result c.loop-at.invariant.0.long c.entry-e.ensures w.index-is
+            | else-count-lt-MOST_RECORDS w ↦ not_noted c.args.table.now c.loop-at.index c.if-count-lt-MOST_RECORDS.index c.loop-at.count c.loop-at.at c.measure-len.result c.loop-at.invariant.0.long w.index-is w.if-count-lt-MOST_RECORDS.false
+          ]),
       c.loop-at.invariant.1,
     )
 

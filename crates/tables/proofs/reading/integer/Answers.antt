@@ -1,4 +1,5 @@
 -- The integer is the four fields.
+use mir.Syntax.{w32}
 use Rattle.tables.proofs.Stand.{rest_long, in_index, four_there, field_within, integer_is}
 use mir.Facts.{to_z-of_z}
 use native.Mathlib.Omega.{arith}
@@ -22,4 +23,4 @@ read32-requires c =
 
 pub returns : goal.returns
 returns c =
-    to_z-of_z (record { sfits = c.read32.type_inv }) ∙ c.read32.ensures ∙ integer_is c.args.table.now c.args.index.now c.args.r c.requires.here c.place-at.result c.place-at.ensures c.requires.has
+    to_z-of_z {w = w32} (record { sfits = c.read32.type_inv }) ∙ c.read32.ensures ∙ integer_is c.args.table.now c.args.index.now c.args.r c.requires.here c.place-at.result c.place-at.ensures c.requires.has

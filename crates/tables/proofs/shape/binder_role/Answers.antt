@@ -1,4 +1,5 @@
 -- By the operand's number.
+use native.Mathlib.Omega.{arith}
 use mathlib.Core.Path.{sym}
 use Rattle.tables.specs.Laws.Roles.{binder_later}
 use Rattle.tables.proofs.shape.binder_role.Goals as goal
@@ -14,4 +15,4 @@ returns-in-2 c = rw c.in-2.is c.third_role.ensures
 
 pub returns-in_default : goal.returns-in_default
 returns-in_default c =
-    sym (binder_later c.args.kind c.args.i c.in_default-own.rest.0.0.1 c.in_default-own.rest.0.1 c.in_default-own.rest.1)
+    sym (binder_later c.args.kind c.args.i (omega arith) (omega arith) (omega arith))

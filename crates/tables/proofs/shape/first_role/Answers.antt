@@ -9,4 +9,4 @@ pub returns-in-19 : goal.returns-in-19
 returns-in-19 c = rw c.in-19.is
 
 pub returns-in_default : goal.returns-in_default
-returns-in_default c = rw (ne_eqb c.args.kind 17 c.in_default-own.rest.0.1, ne_eqb c.args.kind 19 c.in_default-own.rest.1)
+returns-in_default c = rw (ne_eqb c.args.kind 17 c.in_default.in_default-own.rest.0.1, ne_eqb c.args.kind 19 c.in_default.in_default-own.rest.1)

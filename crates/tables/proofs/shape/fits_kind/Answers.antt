@@ -4,8 +4,8 @@ use Rattle.tables.proofs.shape.fits_kind.Goals as goal
 
 pub returns-then-len-gt-LONGEST : goal.returns-then-len-gt-LONGEST
 returns-then-len-gt-LONGEST c =
-    too_long c.args.kind c.requires.kind_le_last_kind.0 c.args.len c.requires.kind_le_last_kind.1 c.if-len-gt-LONGEST.true
+    too_long c.args.kind c.requires.kind_known.0 c.args.len c.requires.kind_known.1 c.if-len-gt-LONGEST.true
 
 pub returns : goal.returns
 returns c =
-    rw c.requires.lengths_value (by_bit c.args.kind c.requires.kind_le_last_kind.0 c.args.len c.requires.kind_le_last_kind.1 c.if-len-gt-LONGEST.false)
+    rw c.requires.lengths_known (by_bit c.args.kind c.requires.kind_known.0 c.args.len c.requires.kind_known.1 c.if-len-gt-LONGEST.false)

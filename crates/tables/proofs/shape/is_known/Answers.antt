@@ -30,4 +30,4 @@ returns-in-5 c = rw c.in-5.is c.is_between-in-5.ensures
 
 pub returns-in_default : goal.returns-in_default
 returns-in_default c =
-    c.is_kind.ensures ∙ other_known c.args.kind c.args.n c.requires c.in_default-own.rest.0.0.0.0.0.1 c.in_default-own.rest.0.0.0.0.1 c.in_default-own.rest.0.0.0.1 c.in_default-own.rest.0.0.1 c.in_default-own.rest.0.1 c.in_default-own.rest.1
+    c.is_kind.ensures ∙ other_known c.args.kind c.args.n c.requires c.before.in_default.in_default-own.rest.0.0.0.0.0.1 c.before.in_default.in_default-own.rest.0.0.0.0.1 c.before.in_default.in_default-own.rest.0.0.0.1 c.before.in_default.in_default-own.rest.0.0.1 c.before.in_default.in_default-own.rest.0.1 c.before.in_default.in_default-own.rest.1
