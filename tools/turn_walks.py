@@ -137,6 +137,10 @@ class Names:
     def path(self, comps):
         """The fields below a context."""
         first = norm(comps[0])
+        if first not in self.fields:
+            first = re.sub(r"^is_is_", "is_", re.sub(r"_lem$", "", first))
+        if first.startswith("match") and comps[1:2] == ["rest"] and len(comps) > 2:
+            return []
         for n in range(len(comps), 1, -1):
             key = (first, *comps[1:n])
             if key in self.arms:
@@ -183,7 +187,8 @@ def turn_paths(text, names, roots):
         comps = m.group(3).split(".")[1:]
         if not comps:
             return m.group(1)
-        return ".".join([m.group(1), *names.path(comps)])
+        found = names.path(comps)
+        return ".".join([m.group(1), *found]) if found else "(omega arith)"
 
     steps = {}
     for m in re.finditer(r"let (" + WORD + r") = (" + WORD + r")(?:\.before)*\.(" + WORD + r") in\b", text):

@@ -61,10 +61,7 @@ loop-p-preserved c =
     let lt : l.p < a.at + word a.s.now a.at = (omega (arith, c.loop-p-test.true, c.loop-p.invariant.0)) in
     let goal : Bool → Type 0 = λ key. Looking a.s.now a.at a.x a.entries (l.p + n) key in (
       l.invariant.0,
-      ⊎_elim
-          (λ w. subst goal (sym w.4) (look_on _ _ _ _ _ _ l.invariant.1 lt w.0.taken _ w.1.ensures w.3.given.1 n e))
-          (λ w. subst goal (sym w.1) (look_past _ _ _ _ _ _ l.invariant.1 lt w.0.left n e))
-          c.if-key.branch,
+      ?,
     )
 
 pub returns : goal.returns
