@@ -36,4 +36,4 @@ returns-in-11 c =
 pub returns-in_default : goal.returns-in_default
 unfolding binary
 returns-in_default c =
-    by_binary 12 c.args.operator (λ a b. answered (Whole.modulus_of a b)) (meet c.requires.1 (past_next (past_next (past_next (past_next (past_next c.requires.0 c.in_default-own.rest.0.0.0.0.1) c.in_default-own.rest.0.0.0.1) c.in_default-own.rest.0.0.1) c.in_default-own.rest.0.1) c.in_default-own.rest.1)) refl c.ranges.a c.ranges.b (ap answered c.modulo.ensures)
+    by_binary 12 c.args.operator (λ a b. answered (Whole.modulus_of a b)) (meet c.requires.1 (past_next (past_next (past_next (past_next (past_next c.requires.0 (omega arith)) (omega arith)) (omega arith)) (omega arith)) (omega arith))) refl c.ranges.a c.ranges.b (ap answered c.modulo.ensures)

@@ -26,10 +26,10 @@ is_low-is_leaf-requires t c = c.kind-k.ensures.1
 
 pub is_low-returns-then-is_leaf : goal.is_low-returns-then-is_leaf
 is_low-returns-then-is_leaf t c =
-    down_leaf (records c.args.table.now) c.requires.clear c.args.r c.requires.here.within c.args.most c.loop-room.q c.loop-room.room c.loop-room.invariant (fit_records c.args.table.now c.loop-room.q (omega (arith, c.loop-room.invariant.within, c.requires.here.within))) (sym (c.is_Is_leaf.ensures ∙ ap is_leaf c.kind-k.ensures.0) ∙ c.if-is_leaf.true)
+    down_leaf (records c.args.table.now) c.requires.clear c.args.r c.requires.here.within c.args.most c.loop-room.q c.loop-room.room c.loop-room.invariant (fit_records c.args.table.now c.loop-room.q (omega (arith, c.loop-room.invariant.within, c.requires.here.within))) (sym (c.is_leaf.ensures ∙ ap is_leaf c.kind-k.ensures.0) ∙ c.if-is_leaf.true)
 
 pub is_low-first_of-first-requires : goal.is_low-first_of-first-requires
-is_low-first_of-first-requires t c = (sym c.is_Is_leaf.ensures ∙ c.if-is_leaf.false, c.kind-k.ensures.1)
+is_low-first_of-first-requires t c = (sym c.is_leaf.ensures ∙ c.if-is_leaf.false, c.kind-k.ensures.1)
 
 pub is_low-operands_from-count-requires : goal.is_low-operands_from-count-requires
 is_low-operands_from-count-requires t c =

@@ -20,13 +20,13 @@ is_leaf-requires c = c.kind-k.ensures.1
 
 pub returns-then-is_leaf : goal.returns-then-is_leaf
 returns-then-is_leaf c =
-    λ e. omega (arith, leaf_height (records c.args.table.now) c.requires.clear c.args.r c.requires.here.within (fit_records c.args.table.now c.args.r c.requires.here.within) (sym (c.is_Is_leaf.ensures ∙ ap is_leaf c.kind-k.ensures.0) ∙ c.if-is_leaf.true), c.requires.room)
+    λ e. omega (arith, leaf_height (records c.args.table.now) c.requires.clear c.args.r c.requires.here.within (fit_records c.args.table.now c.args.r c.requires.here.within) (sym (c.is_leaf.ensures ∙ ap is_leaf c.kind-k.ensures.0) ∙ c.if-is_leaf.true), c.requires.room)
 
 pub returns-then-most-eq1 : goal.returns-then-most-eq1
 returns-then-most-eq1 c = λ e. never e
 
 pub first_of-first-requires : goal.first_of-first-requires
-first_of-first-requires c = (sym c.is_Is_leaf.ensures ∙ c.if-is_leaf.false, c.kind-k.ensures.1)
+first_of-first-requires c = (sym c.is_leaf.ensures ∙ c.if-is_leaf.false, c.kind-k.ensures.1)
 
 pub operands_from-count-requires : goal.operands_from-count-requires
 operands_from-count-requires c = (c.requires.here, c.first_of-first.ensures ∙ ap first_of c.kind-k.ensures.0)

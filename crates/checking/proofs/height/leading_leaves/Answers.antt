@@ -27,7 +27,7 @@ loop-n-smaller c = omega (arith, c.loop-n-test.true)
 
 pub loop-n-preserved : goal.loop-n-preserved
 loop-n-preserved c =
-    leaf_more (records c.args.table.now) c.args.count c.loop-n.n c.loop-n.invariant c.loop-n-test.true (sym (c.is_Is_leaf.ensures ∙ ap is_leaf c.kind.ensures.0) ∙ c.if-not-leaf.false)
+    leaf_more (records c.args.table.now) c.args.count c.loop-n.n c.loop-n.invariant c.loop-n-test.true (sym (c.is_leaf-leaf.ensures ∙ ap is_leaf c.kind.ensures.0) ∙ c.if-not-leaf.false)
 
 pub returns : goal.returns
 returns c = c.loop-n.invariant

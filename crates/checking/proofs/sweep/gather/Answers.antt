@@ -18,7 +18,7 @@ operands_from-count-requires c = (c.requires.0.ask.here, c.first_byte-first.ensu
 
 pub loop-i-init : goal.loop-i-init
 loop-i-init c =
-    gathers_start (records c.args.table.now) c.args.r c.args.left.now c.args.frees.now c.own_of_lem.result 0 c.alone-s.result c.requires.0.ask.here.within c.requires.0.ask.left_is c.own_of_lem.ensures 0 (binds_nothing c.requires.0 c.requires.1 c.requires.2).names (binds_nothing c.requires.0 c.requires.1 c.requires.2).free c.alone-s.ensures
+    gathers_start (records c.args.table.now) c.args.r c.args.left.now c.args.frees.now c.own_of.result 0 c.alone-s.result c.requires.0.ask.here.within c.requires.0.ask.left_is c.own_of.ensures 0 (binds_nothing c.requires.0 c.requires.1 c.requires.2).names (binds_nothing c.requires.0 c.requires.1 c.requires.2).free c.alone-s.ensures
 
 pub operand_from-n-requires : goal.operand_from-n-requires
 operand_from-n-requires c =
