@@ -12,6 +12,7 @@ use Rattle.tables.specs.Accepted.{records}
 use Rattle.tables.specs.Laws.Accepted.{fit_records, operand_lower}
 use Rattle.checking.proofs.Heights.{low_start, low_more, operand_high, operand_last, down_start, down_bare, down_leaf, down_high, down_more, down_end}
 use Rattle.checking.proofs.height.+is_low_last_low.Goals as goal
+use Rattle.checking.proofs.height.+is_low_last_low.Goals.{last_low-then-not-flat+else-not-low, last_low-else-not-flat}
 
 pub is_low-loop-room-init : goal.is_low-loop-room-init
 is_low-loop-room-init t c =
@@ -75,17 +76,15 @@ pub last_low-loop-i-init : goal.last_low-loop-i-init
 last_low-loop-i-init t c =
     record { within = omega arith; is = c.operand_from-n.ensures.0; byte = c.operand_from-n.ensures.1; low = low_start (records c.args.table.now) c.requires.low.clear c.args.r c.requires.low.here.within c.args.most }
 
--- Operand n is lower.
-is_lower : (t : ℕ) (c : goal.In-loop-room) → c.loop-room.n < c.args.r
-is_lower t c = omega (arith, operand_lower (records c.args.table.now) c.requires.low.clear c.args.r c.loop-room.i c.requires.low.here.within (omega (arith, c.loop-room.invariant.within, c.requires.all)), c.loop-room.invariant.is)
-
 pub last_low-is_flat-flat-requires : goal.last_low-is_flat-flat-requires
 last_low-is_flat-flat-requires t c =
-    record { here = record { indexed = c.requires.low.here.indexed; within = omega (arith, is_lower t c, c.requires.low.here.within) }; clear = c.requires.low.clear; room = c.requires.low.room }
+    let is_lower : c.loop-i.n < c.args.r = omega (arith, operand_lower (records c.args.table.now) c.requires.low.clear c.args.r c.loop-i.i c.requires.low.here.within (omega (arith, c.loop-i.invariant.within, c.requires.all)), c.loop-i.invariant.is) in
+    record { here = record { indexed = c.requires.low.here.indexed; within = omega (arith, is_lower, c.requires.low.here.within) }; clear = c.requires.low.clear; room = c.requires.low.room }
 
 pub last_low-is_low-low-requires : goal.last_low-is_low-low-requires
 last_low-is_low-low-requires t c =
-    (omega (arith, is_lower t c, c.decreases), record { here = record { indexed = c.requires.low.here.indexed; within = omega (arith, is_lower t c, c.requires.low.here.within) }; clear = c.requires.low.clear; room = c.requires.low.room })
+    let is_lower : c.loop-i.n < c.args.r = omega (arith, operand_lower (records c.args.table.now) c.requires.low.clear c.args.r c.loop-i.i c.requires.low.here.within (omega (arith, c.loop-i.invariant.within, c.requires.all)), c.loop-i.invariant.is) in
+    (omega (arith, is_lower, c.decreases), record { here = record { indexed = c.requires.low.here.indexed; within = omega (arith, is_lower, c.requires.low.here.within) }; clear = c.requires.low.clear; room = c.requires.low.room })
 
 pub last_low-returns-then-not-low : goal.last_low-returns-then-not-low
 last_low-returns-then-not-low t c =
@@ -101,16 +100,13 @@ last_low-operand_from-n-requires-in-loop-i t c =
 pub last_low-loop-i-smaller : goal.last_low-loop-i-smaller
 last_low-loop-i-smaller t c = omega (arith, c.loop-i-test.true)
 
--- Operand n is low enough: it is flat, or it is found to be.
-is_so_low : (t : ℕ) (c : goal.Joined1) → height (records c.args.table.now) c.loop-room.n ≤ c.args.most
-is_so_low t c =
-    ⊎_elim (λ w. leb-true (height (records c.args.table.now) c.loop-room.n) c.args.most (sym w.1.ensures ∙ not-false _ w.2.left))
-    (λ w. c.is_flat.ensures (not-false _ w.left))
-    c.if-is_leaf.branch
-
 pub last_low-loop-i-preserved : goal.last_low-loop-i-preserved
 last_low-loop-i-preserved t c =
-    record { within = omega (arith, c.loop-i-test.true); is = c.operand_from-n-in-loop-i.ensures.0; byte = c.operand_from-n-in-loop-i.ensures.1; low = low_more (records c.args.table.now) c.requires.low.clear c.args.r c.requires.low.here.within c.args.most c.loop-i.i c.loop-i.n c.loop-i.invariant.is c.loop-i.invariant.low (is_so_low t c) }
+    let is_so_low : height (records c.args.table.now) c.loop-i.n ≤ c.args.most = elim c.if-not-flat.branch [
+      last_low-then-not-flat+else-not-low w ↦ leb-true (height (records c.args.table.now) c.loop-i.n) c.args.most (sym w.is_low-low.ensures ∙ w.if-not-low.false)
+      | last_low-else-not-flat w ↦ c.is_flat-flat.ensures w.if-not-flat.false
+    ] in
+    record { within = omega (arith, c.loop-i-test.true); is = c.operand_from-n-in-loop-i.ensures.0; byte = c.operand_from-n-in-loop-i.ensures.1; low = low_more (records c.args.table.now) c.requires.low.clear c.args.r c.requires.low.here.within c.args.most c.loop-i.i c.loop-i.n c.loop-i.invariant.is c.loop-i.invariant.low is_so_low }
 
 pub last_low-returns : goal.last_low-returns
 last_low-returns t c =

@@ -38,12 +38,10 @@ pub operand_from-n-requires : goal.operand_from-n-requires
 operand_from-n-requires c =
     (record { here = c.requires.here; has = omega (arith, c.loop-i-test.true, c.operands_from-count.ensures.0) }, c.first_of-first.ensures ∙ ap first_of c.kind-k.ensures.0)
 
--- Operand n is lower, so that it is in the table.
-is_within : (c : goal.After-operand_from-n) → c.operand_from-n.result < length (records c.args.table.now)
-is_within c = omega (arith, operand_lower (records c.args.table.now) c.requires.clear c.args.r c.loop-i.i c.requires.here.within (omega (arith, c.loop-i-test.true, c.operands_from-count.ensures.0)), c.operand_from-n.ensures.0, c.requires.here.within)
-
 pub kind-requires : goal.kind-requires
-kind-requires c = record { indexed = c.requires.here.indexed; within = is_within c }
+kind-requires c =
+    let is_within : c.operand_from-n.result < length (records c.args.table.now) = omega (arith, operand_lower (records c.args.table.now) c.requires.clear c.args.r c.loop-i.i c.requires.here.within (omega (arith, c.loop-i-test.true, c.operands_from-count.ensures.0)), c.operand_from-n.ensures.0, c.requires.here.within) in
+    record { indexed = c.requires.here.indexed; within = is_within }
 
 pub is_leaf-leaf-requires : goal.is_leaf-leaf-requires
 is_leaf-leaf-requires c = c.kind.ensures.1
@@ -59,8 +57,9 @@ loop-i-smaller c = omega (arith, c.loop-i-test.true)
 
 pub loop-i-preserved : goal.loop-i-preserved
 loop-i-preserved c =
+    let is_within : c.operand_from-n.result < length (records c.args.table.now) = omega (arith, operand_lower (records c.args.table.now) c.requires.clear c.args.r c.loop-i.i c.requires.here.within (omega (arith, c.loop-i-test.true, c.operands_from-count.ensures.0)), c.operand_from-n.ensures.0, c.requires.here.within) in
     low_more (records c.args.table.now) c.requires.clear c.args.r c.requires.here.within 1 c.loop-i.i c.operand_from-n.result c.operand_from-n.ensures.0 c.loop-i.invariant
-    (omega (arith, leaf_height (records c.args.table.now) c.requires.clear c.operand_from-n.result (is_within c) (fit_records c.args.table.now c.operand_from-n.result (is_within c)) (sym (c.is_leaf-leaf.ensures ∙ ap is_leaf c.kind.ensures.0) ∙ c.if-not-leaf.false)))
+    (omega (arith, leaf_height (records c.args.table.now) c.requires.clear c.operand_from-n.result is_within (fit_records c.args.table.now c.operand_from-n.result is_within) (sym (c.is_leaf-leaf.ensures ∙ ap is_leaf c.kind.ensures.0) ∙ c.if-not-leaf.false)))
 
 -- There is room for two, where not only for one.
 two : (m : ℕ) → 0 < m → (m ≡ 1 → ⊥) → 2 ≤ m

@@ -16,21 +16,24 @@ pub returns-then-left-n : goal.returns-then-left-n
 returns-then-left-n c =
     record { told = c.stop.ensures ∙ sym (rw (ne_eqb (get_or c.args.left.now c.args.n 0) (asked c.args.role) (λ e. c.if-left-n.true (e ∙ sym c.wanted.ensures)))); added = λ e. never (sym c.stop.ensures ∙ e) }
 
-in_table : (c : goal.Else-left-n) → c.args.n < length (records c.args.table.now)
-in_table c = c.requires.within (omega (arith, c.if-left-n.false, c.wanted.ensures, asked_some c.args.role))
-
 pub is_named-named-requires : goal.is_named-named-requires
-is_named-named-requires c = record { indexed = c.requires.indexed; within = in_table c }
+is_named-named-requires c =
+    let in_table : c.args.n < length (records c.args.table.now) = c.requires.within (omega (arith, c.if-left-n.false, c.wanted.ensures, asked_some c.args.role)) in
+    record { indexed = c.requires.indexed; within = in_table }
 
 pub returns-then-not-named : goal.returns-then-not-named
 returns-then-not-named c =
     record { told = c.stop-then-not-named.ensures ∙ sym (rw (eq-eqb (get_or c.args.left.now c.args.n 0) (asked c.args.role) (c.if-left-n.false ∙ c.wanted.ensures), sym c.is_named-named.ensures ∙ c.if-not-named.true)); added = λ e. never (sym c.stop-then-not-named.ensures ∙ e) }
 
 pub bounds-below-n : goal.bounds-below-n
-bounds-below-n c = omega (arith, in_table c, c.requires.indexed.few)
+bounds-below-n c =
+    let in_table : c.args.n < length (records c.args.table.now) = c.requires.within (omega (arith, c.if-left-n.false, c.wanted.ensures, asked_some c.args.role)) in
+    omega (arith, in_table, c.requires.indexed.few)
 
 pub bounds-frees-n : goal.bounds-frees-n
-bounds-frees-n c = omega (arith, in_table c, c.requires.indexed.few)
+bounds-frees-n c =
+    let in_table : c.args.n < length (records c.args.table.now) = c.requires.within (omega (arith, c.if-left-n.false, c.wanted.ensures, asked_some c.args.role)) in
+    omega (arith, in_table, c.requires.indexed.few)
 
 pub returns-then-not-fine : goal.returns-then-not-fine
 returns-then-not-fine c =

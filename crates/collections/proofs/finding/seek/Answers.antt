@@ -61,7 +61,10 @@ loop-p-preserved c =
     let lt : l.p < a.at + word a.s.now a.at = (omega (arith, c.loop-p-test.true, c.loop-p.invariant.0)) in
     let goal : Bool → Type 0 = λ key. Looking a.s.now a.at a.x a.entries (l.p + n) key in (
       l.invariant.0,
-      ?,
+      elim c.if-key.branch [
+        then-key w ↦ let h = w in ?
+        | else-key w ↦ let h = w in ?
+      ],
     )
 
 pub returns : goal.returns
