@@ -86,8 +86,8 @@ module _ {k : Kind} {f : Items → Answer} {g : Value → Answer} (e : (v : Valu
       one_by {f = g} o.kept a
       (subst (λ (x : Answer). Applies t base r x) (sym (e (collection k vs) ∙ ap (λ (i : Option Items). needs i f) (kind_view k vs))) (o.right vs a))
 
-  pub off_one : {s : List ℕ} {base kind : ℕ} → KindAt s base kind → (kind ≡ number k → ⊥) → OnOne g s s base (Refused wrong_kind)
-  off_one r n = one_off (λ v a. e v ∙ needs_off f (no_kind r k n v a))
+pub off_one : (k : Kind) {f : Items → Answer} {g : Value → Answer} → ((v : Value) → g v ≡ needs (as_kind k v) f) → {s : List ℕ} {base kind : ℕ} → KindAt s base kind → (kind ≡ number k → ⊥) → OnOne g s s base (Refused wrong_kind)
+off_one k {f} e r n = one_off (λ v a. e v ∙ needs_off f (no_kind r k n v a))
 
 -- Two operands that are of the kinds k and l.
 pub has_two : {s : List ℕ} {base : ℕ} {r : Bool} (k l : Kind) → Two s base → KindsAre s base (number k) (number l) r → r ≡ true → HasTwo k l s base
@@ -119,16 +119,16 @@ module _ {k l : Kind} {f : Items → Items → Answer} {g : Value → Value → 
       ∙ ap (λ (i : Option Items). needs i (f vs)) (kind_view l ws)))
       (o.right vs ws a b))
 
-  pub off_two : {s : List ℕ} {base : ℕ} {r : Bool} → KindsAre s base (number k) (number l) r → r ≡ false → OnTwo g s s base (Refused wrong_kind)
-  off_two c d =
-      two_off
-      (λ v w a b.
-      e v w
-      ∙ by_test (eqb (kind_of v) (number k))
-      (λ x.
-      needs_right (as_kind k v) f
-      (kind_not l w (eqb-false (kind_of w) (number l) (ap (λ (y : Bool). y && eqb (kind_of w) (number l)) (sym x) ∙ sym (c v w a b) ∙ d))))
-      (λ x. needs_left (as_kind l w) f (kind_not k v (eqb-false (kind_of v) (number k) x))))
+pub off_two : (k l : Kind) {f : Items → Items → Answer} {g : Value → Value → Answer} → ((v w : Value) → g v w ≡ needs_both (as_kind k v) (as_kind l w) f) → {s : List ℕ} {base : ℕ} {r : Bool} → KindsAre s base (number k) (number l) r → r ≡ false → OnTwo g s s base (Refused wrong_kind)
+off_two k l {f} e c d =
+    two_off
+    (λ v w a b.
+    e v w
+    ∙ by_test (eqb (kind_of v) (number k))
+    (λ x.
+    needs_right (as_kind k v) f
+    (kind_not l w (eqb-false (kind_of w) (number l) (ap (λ (y : Bool). y && eqb (kind_of w) (number l)) (sym x) ∙ sym (c v w a b) ∙ d))))
+    (λ x. needs_left (as_kind l w) f (kind_not k v (eqb-false (kind_of v) (number k) x))))
 
 -- ---- the kinds of two operands as one test
 

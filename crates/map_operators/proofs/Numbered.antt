@@ -23,8 +23,8 @@ pub not_map : {s : List ℕ} {base kind n : ℕ} → 14 ≤ n → n ≤ 15 → K
 unfolding unary
 not_map {n = n} low high r f =
     by_test (eqb n 14)
-    (λ e. off_one {k = map} {f = dom_answer} {g = unary n} (λ v. ap (λ (i : ℕ). unary i v) (eqb-true n 14 e)) r f)
-    (λ e. off_one {k = map} {f = rng_answer} {g = unary n} (λ v. ap (λ (i : ℕ). unary i v) (not_fourteen high low (eqb-false n 14 e))) r f)
+    (λ e. off_one map {f = dom_answer} {g = unary n} (λ v. ap (λ (i : ℕ). unary i v) (eqb-true n 14 e)) r f)
+    (λ e. off_one map {f = rng_answer} {g = unary n} (λ v. ap (λ (i : ℕ). unary i v) (not_fourteen high low (eqb-false n 14 e))) r f)
 
 -- the last number, where it is none of the others
 pub is_range_restriction : {n : ℕ} → n ≤ 28 → 25 ≤ n → (n ≡ 25 → ⊥) → (n ≡ 26 → ⊥) → (n ≡ 27 → ⊥) → n ≡ 28

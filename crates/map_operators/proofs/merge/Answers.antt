@@ -25,4 +25,4 @@ returns-then-kinds_are c =
 pub returns : goal.returns
 unfolding binary
 returns c =
-    off_two {k = map} {l = map} {f = merged_maps} (λ v w. refl) c.kinds_are.ensures c.if-kinds_are.false
+    off_two map map {f = merged_maps} (λ v w. refl) c.kinds_are.ensures c.if-kinds_are.false

@@ -17,4 +17,4 @@ returns-then-kinds_are c =
 pub returns : goal.returns
 unfolding binary
 returns c =
-    off_two {k = map} {l = map} {f = entered_all} (λ v w. refl) c.kinds_are.ensures c.if-kinds_are.false
+    off_two map map {f = entered_all} (λ v w. refl) c.kinds_are.ensures c.if-kinds_are.false

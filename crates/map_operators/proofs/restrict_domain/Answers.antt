@@ -20,4 +20,4 @@ returns-then-kinds_are c =
 
 pub returns : goal.returns
 unfolding binary
-returns c = off_two {k = set} {l = map} {f = on_domain} (λ v w. refl) c.kinds_are.ensures c.if-kinds_are.false
+returns c = off_two set map {f = on_domain} (λ v w. refl) c.kinds_are.ensures c.if-kinds_are.false

@@ -16,4 +16,4 @@ returns-then-kinds_are c =
 
 pub returns : goal.returns
 unfolding binary
-returns c = off_two {k = map} {l = set} {f = on_range} (λ v w. refl) c.kinds_are.ensures c.if-kinds_are.false
+returns c = off_two map set {f = on_range} (λ v w. refl) c.kinds_are.ensures c.if-kinds_are.false

@@ -33,7 +33,7 @@ loop-r-smaller c = let e = c.rest-r.ensures in omega arith
 
 pub loop-r-preserved : goal.loop-r-preserved
 loop-r-preserved c =
-    unfound_more c.loop-r.invariant c.loop-r-test.true c.whole_at-item.ensures _ c.order_parts-o.ensures (λ d. ⊎_elim (λ k. let e = rw d at k in omega arith) (λ k. let e = rw d at k in omega arith) c.in_default-own.keys2) c.rest-r.ensures
+    unfound_more c.loop-r.invariant c.loop-r-test.true c.whole_at-item.ensures _ c.order_parts-o.ensures c.in_default.not-Same c.rest-r.ensures
 
 pub returns : goal.returns
 returns c = unfound_end c.loop-r.invariant c.run_of-r.ensures (omega arith)

@@ -12,6 +12,7 @@ use Rattle.collections.specs.declared.finding.Sought.TheVariants.{Here, Before}
 use Rattle.collections.proofs.Walks.{walk_run}
 use Rattle.collections.proofs.Looking.{Looking, looked, look_end, look-here, look_on, look_past}
 use Rattle.collections.proofs.finding.seek.Goals as goal
+use Rattle.collections.proofs.finding.seek.Goals.{then-key+in-Higher, else-key}
 
 pub length_of-requires : goal.length_of-requires
 length_of-requires c = holds c.requires.0.here
@@ -62,8 +63,8 @@ loop-p-preserved c =
     let goal : Bool → Type 0 = λ key. Looking a.s.now a.at a.x a.entries (l.p + n) key in (
       l.invariant.0,
       elim c.if-key.branch [
-        then-key w ↦ let h = w in ?
-        | else-key w ↦ let h = w in ?
+        then-key+in-Higher w ↦ subst goal (sym w.key-is) (look_on _ _ _ _ _ _ l.invariant.1 lt w.if-key.true _ w.compare.ensures w.in-Higher.is n e)
+        | else-key w ↦ subst goal (sym w.key-is) (look_past _ _ _ _ _ _ l.invariant.1 lt w.if-key.false n e)
       ],
     )
 

@@ -16,4 +16,4 @@ returns-in-Same c =
 
 pub returns : goal.returns
 returns c =
-    (clashes _ _ c.requires.0 _ _ c.if-old-eq0.false _ c.order_words-o.ensures (λ d. ⊎_elim (λ k. let e = rw d at k in omega arith) (λ k. let e = rw d at k in omega arith) c.in_default-own.keys2), grown_same _)
+    (clashes _ _ c.requires.0 _ _ c.if-old-eq0.false _ c.order_words-o.ensures c.in_default.not-Same, grown_same _)

@@ -43,7 +43,7 @@ compare-o-requires c =
 
 pub returns-in_default : goal.returns-in_default
 returns-in_default c =
-    choices_settled c.loop-m.invariant c.loop-m-test.true c.if-n-eq0.false (omega (arith, c.if-m-eq0.false)) (omega (arith, c.if-n-eq0-2.false)) _ c.compare-o.ensures (λ d. ⊎_elim (λ k. let e = rw d at k in omega arith) (λ k. let e = rw d at k in omega arith) c.in_default-own.keys2)
+    choices_settled c.loop-m.invariant c.loop-m-test.true c.if-n-eq0.false (omega (arith, c.if-m-eq0.false)) (omega (arith, c.if-n-eq0-2.false)) _ c.compare-o.ensures c.in_default.not-Same
 
 pub length_of-k-requires : goal.length_of-k-requires
 length_of-k-requires c = choice_first (choices_held c.loop-m.invariant c.requires.0 c.requires.1).0 c.loop-m-test.true
