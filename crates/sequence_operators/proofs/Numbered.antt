@@ -32,7 +32,7 @@ pub not_sequence : {s : List ℕ} {base kind n : ℕ} → 7 ≤ n → n ≤ 13 �
 not_sequence {n = n} low high r f =
     let e : 7 + (n - 7) ≡ n = omega arith in
     let a : Asks n = subst Asks e (asks (n - 7) (omega arith)) in
-    off_one _ a.is r f
+    off_one sequence {f = a.answer} a.is r f
 
 -- the last number, where it is none of the others
 pub is_reverse : {n : ℕ} → n ≤ 13 → 7 ≤ n → (n ≡ 7 → ⊥) → (n ≡ 8 → ⊥) → (n ≡ 9 → ⊥) → (n ≡ 10 → ⊥) → (n ≡ 11 → ⊥) → (n ≡ 12 → ⊥) → n ≡ 13

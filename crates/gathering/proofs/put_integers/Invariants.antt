@@ -1,11 +1,9 @@
 use Prim.Native.Nat.{◌≤◌, ◌-◌}
-use mir.Syntax.{w32}
-use mir.Val.{to_z}
 use Rattle.gathering.specs.Consecutive.{PutIntegers}
 use Rattle.gathering.proofs.put_integers.Given as goal
 
 abbrev pub invariant-loop-i : goal.invariant-loop-i
-invariant-loop-i l = (l.i ≤ l.n) × PutIntegers l.initial.s l.s l.at (to_z w32 l.from) l.i
+invariant-loop-i l = (l.i ≤ l.n) × PutIntegers l.initial.s l.s l.at l.from l.i
 
 abbrev pub decreases-loop-i : goal.decreases-loop-i
 decreases-loop-i l = l.n - l.i

@@ -1,4 +1,5 @@
 -- `binary_map` meets its contract, by what it calls.
+use native.Mathlib.Omega.{arith}
 use Rattle.calling.proofs.Numbered.{binary_as}
 use Rattle.map_operators.proofs.Numbered.{is_range_restriction}
 use Rattle.map_operators.proofs.binary_map.Goals as goal
@@ -14,4 +15,4 @@ returns-in-27 c = binary_as _ c.in-27.is c.restrict_domain.ensures
 
 pub returns-in_default : goal.returns-in_default
 returns-in_default c =
-    let r = c.in_default-own.rest in binary_as _ (is_range_restriction c.requires.2 c.requires.1 r.0.0.1 r.0.1 r.1) c.restrict_range.ensures
+    binary_as _ (is_range_restriction c.requires.2 c.requires.1 (omega arith) (omega arith) (omega arith)) c.restrict_range.ensures

@@ -5,6 +5,7 @@ use native.Mathlib.Omega.{arith}
 use Rattle.values.proofs.Records.{holds}
 use Rattle.map_operators.proofs.Halving.{halving_start, halving_run, halving_movable, halving_keep, halving_past, halving_end}
 use Rattle.map_operators.proofs.every_other.Goals as goal
+use Rattle.map_operators.proofs.every_other.Goals.{then-wanted, else-wanted}
 
 pub length_of-requires : goal.length_of-requires
 length_of-requires c = holds c.requires.held.here
@@ -40,7 +41,10 @@ loop-p-smaller c = omega arith
 
 pub loop-p-preserved : goal.loop-p-preserved
 loop-p-preserved c =
-    ⊎_elim (λ x. rw (x.5, x.6) (halving_keep c.loop-p.invariant (omega arith) c.length_of-n.ensures.is x.0.taken x.2.ensures)) (λ x. rw (x.1, x.2) (halving_past c.loop-p.invariant (omega arith) c.length_of-n.ensures.is x.0.left)) c.if-wanted.branch
+    elim c.if-wanted.branch [
+      then-wanted w ↦ rw (w.s-is, w.q-is) (halving_keep c.loop-p.invariant (omega arith) c.length_of-n.ensures.is w.if-wanted.true w.copy_bytes.ensures)
+      | else-wanted w ↦ rw (w.s-is, w.q-is) (halving_past c.loop-p.invariant (omega arith) c.length_of-n.ensures.is w.if-wanted.false)
+    ]
 
 pub overflow_sub-q : goal.overflow_sub-q
 overflow_sub-q c = let d = c.loop-p.invariant.done_at.ends in omega arith

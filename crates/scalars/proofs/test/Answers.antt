@@ -28,4 +28,4 @@ returns-in-15 c =
 pub returns-in_default : goal.returns-in_default
 unfolding binary
 returns-in_default c =
-    by_binary 16 c.args.operator (λ a b. truth (le_z b a)) (omega (arith, c.in_default-own.rest)) refl c.ranges.a c.ranges.b (ap truth (ap not c.less-in_default.ensures ∙ sym (le_z_lt_z (machine c.args.b) (machine c.args.a))))
+    by_binary 16 c.args.operator (λ a b. truth (le_z b a)) (omega arith) refl c.ranges.a c.ranges.b (ap truth (ap not c.less-in_default.ensures ∙ sym (le_z_lt_z (machine c.args.b) (machine c.args.a))))

@@ -1,4 +1,5 @@
 -- `unary_sequence` meets its contract, by what it calls.
+use native.Mathlib.Omega.{arith}
 use mathlib.Core.Path.{refl}
 use Rattle.values.specs.Value.{sequence}
 use Rattle.operators.specs.Operators.{unary}
@@ -64,4 +65,4 @@ returns-in-12 c =
 pub returns-in_default : goal.returns-in_default
 unfolding unary
 returns-in_default c =
-    let r = c.in_default-own.rest in on_unary {m = 13} (is_reverse c.requires.2 c.requires.1 r.0.0.0.0.0.1 r.0.0.0.0.1 r.0.0.0.1 r.0.0.1 r.0.1 r.1) (λ v. refl) (has sequence c.requires.0 c.kind_of-kind.ensures c.if-kind-ne-SEQUENCE.false) c.reverse.ensures
+    on_unary {m = 13} (is_reverse c.requires.2 c.requires.1 (omega arith) (omega arith) (omega arith) (omega arith) (omega arith) (omega arith)) (λ v. refl) (has sequence c.requires.0 c.kind_of-kind.ensures c.if-kind-ne-SEQUENCE.false) c.reverse.ensures

@@ -30,7 +30,7 @@ returns-then-n-lt0 c =
 
 pub overflow_cast-result : goal.overflow_cast-result
 overflow_cast-result c =
-    subst (λ (z : ℤ). T (non_neg z) × Fits w64 (nat_abs z)) (sym (total-is c.ranges.from c.ranges.to)) ((found c).signed, (found c).ranges)
+    subst (λ (z : ℤ). T (non_neg z) × Fits w64 (nat_abs z)) (sym (total-is c.ranges.from c.ranges.to)) ((found c).signed, (found c).fits)
 
 pub returns : goal.returns
 returns c = ap nat_abs (total-is c.ranges.from c.ranges.to) ∙ (found c).exact

@@ -7,6 +7,7 @@ use Rattle.tables.specs.Laws.Kinds.{composed_told}
 use Rattle.matching.proofs.Records.{count_fits, has_operand, operand_readable, recast_meets}
 use Rattle.splitting.proofs.Telling.{wide_leaf, wide_unfit, wide_large, ways_held, wide_ways_lem, ways_shallow, ways_start, ways_none, way_held, ways_found, ways_next, parts_start, parts_none, piece_asked, piece_held, parts_past, parts_found, parts_next}
 use Rattle.splitting.proofs.+in_way_in_ways_too_large.Goals as goal
+use Rattle.splitting.proofs.+in_way_in_ways_too_large.Goals.{in_way-then-split+else-wide, in_way-else-split}
 
 pub in_way-kind-k-requires : goal.in_way-kind-k-requires
 in_way-kind-k-requires t c = c.requires.0.here
@@ -44,9 +45,10 @@ in_way-loop-i-smaller t c = omega arith
 
 pub in_way-loop-i-preserved : goal.in_way-loop-i-preserved
 in_way-loop-i-preserved t c =
-    ⊎_elim (λ w. parts_next _ _ _ c.requires.0 _ _ _ c.requires.1 _ c.loop-i.invariant (omega (arith, c.operand_count-n.ensures.0)) _ _ c.kind-k.ensures.0 c.operand_count-n.ensures.0 _ w.1.ensures _ c.operand-q.ensures.0 _ w.2.ensures w.3.left)
-    (λ w. parts_past _ _ _ c.requires.0 _ _ _ c.requires.1 _ c.loop-i.invariant (omega (arith, c.operand_count-n.ensures.0)) _ c.operand-q.ensures.0 _ c.has_split-split.ensures w.left)
-    c.if-split.branch
+    elim c.if-split.branch [
+      in_way-then-split+else-wide w ↦ parts_next _ _ _ c.requires.0 _ _ _ c.requires.1 _ c.loop-i.invariant (omega (arith, c.operand_count-n.ensures.0)) _ _ c.kind-k.ensures.0 c.operand_count-n.ensures.0 _ w.piece-a.ensures _ c.operand-q.ensures.0 _ w.too_large-wide.ensures w.if-wide.false
+      | in_way-else-split w ↦ parts_past _ _ _ c.requires.0 _ _ _ c.requires.1 _ c.loop-i.invariant (omega (arith, c.operand_count-n.ensures.0)) _ c.operand-q.ensures.0 _ c.has_split-split.ensures w.if-split.false
+    ]
 
 pub in_way-returns : goal.in_way-returns
 in_way-returns t c =

@@ -16,7 +16,7 @@ nonzero_div-d t c = omega arith
 
 pub unit_at-requires : goal.unit_at-requires
 unit_at-requires t c =
-    let pre = c.requires in
+    let pre = c.requires.1 in
     (omega arith, (omega arith, quotient_low _ _ (omega arith) pre, omega (arith, c.if-i-at-2.true, rest_low c.args.n c.args.d (omega arith))))
 
 pub overflow_add-result : goal.overflow_add-result
@@ -36,7 +36,7 @@ overflow_sub-i t c = omega arith
 
 pub unit_at-requires-2 : goal.unit_at-requires-2
 unit_at-requires-2 t c =
-    let pre = c.requires in
+    let pre = c.requires.1 in
     (omega arith, (omega arith, quotient_low _ _ (omega arith) pre, omega arith))
 
 pub overflow_add-result-2 : goal.overflow_add-result-2

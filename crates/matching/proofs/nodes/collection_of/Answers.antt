@@ -1,3 +1,4 @@
+use native.Mathlib.Omega.{arith}
 use borrow.Author.Tests.{ne_eqb}
 use Rattle.matching.proofs.nodes.collection_of.Goals as goal
 
@@ -18,5 +19,4 @@ returns-in-42 c = rw c.in-42.is
 
 pub returns-in_default : goal.returns-in_default
 returns-in_default c =
-    let f = c.in_default-own.rest in
-    rw (ne_eqb c.args.kind 36 f.0.0.0.0.1, ne_eqb c.args.kind 37 f.0.0.0.1, ne_eqb c.args.kind 38 f.0.0.1, ne_eqb c.args.kind 41 f.0.1, ne_eqb c.args.kind 42 f.1)
+    rw (ne_eqb c.args.kind 36 (omega arith), ne_eqb c.args.kind 37 (omega arith), ne_eqb c.args.kind 38 (omega arith), ne_eqb c.args.kind 41 (omega arith), ne_eqb c.args.kind 42 (omega arith))
