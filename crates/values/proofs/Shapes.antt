@@ -1,14 +1,13 @@
 -- The shape of items that stand between two places, told from the first of them on.
-use mathlib.Core.Path.{◌≡◌, refl, sym, ap, subst, ◌∙◌}
+use mathlib.Core.Path.{◌≡◌, sym, ap, subst, ◌∙◌}
 use mathlib.Core.Bool.{Bool, true, false}
 use mathlib.Core.List.{List}
 use Prim.Native.Nat.{ℕ, suc, ◌+◌, ◌≤◌, ◌<◌}
 use native.Mathlib.Omega.{arith}
 use lib.Dec.{leb}
-use Rattle.integers.specs.Bytes.{word}
 use Rattle.integers.specs.declared.Order.{Order}
 use Rattle.integers.specs.declared.Order.TheVariants.{Lower, Same, Higher}
-use Rattle.values.specs.Value.{Kind, set, sequence, map, tuple, number, Value, Items, none, more, count, sizes, every_other, keys, order, Before, Ascending, PairedFrom, Shaped, value_limit}
+use Rattle.values.specs.Value.{Kind, set, sequence, map, tuple, number, Value, Items, more, count, every_other, order, Before, Ascending, PairedFrom, Shaped, value_limit}
 use Rattle.values.specs.Place.{At, ItemsAt, HoldsItems}
 use Rattle.values.specs.Contract.{Length, Ordered}
 use Rattle.values.proofs.Order.{number_inj, lower_same, lower_higher}

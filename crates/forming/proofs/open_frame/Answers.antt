@@ -61,4 +61,4 @@ returns-in-Ways c =
 
 pub returns : goal.returns
 returns c =
-    record { right = λ hit rows order target w. no_ways _ _ _ _ _ _ _ _ _ _ _ _ _ _ _ w _ c.reduced-p.ensures c.meet-m.result (met_as _ _ _ _ _ _ _ _ _ _ _ _ _ _ _ w _ c.reduced-p.ensures _ _ _ c.meet-m.result c.kind-k.ensures.0 c.operand_count-c.ensures.0 c.unpack-part.ensures c.meet-m.ensures) (λ k d. ⊎_elim (λ x. let e = rw d at x in omega arith) (λ x. let e = rw d at x in omega arith) c.in_default-own.keys2); less = not_opened_less _ _ _ }
+    record { right = λ hit rows order target w. no_ways _ _ _ _ _ _ _ _ _ _ _ _ _ _ _ w _ c.reduced-p.ensures c.meet-m.result (met_as _ _ _ _ _ _ _ _ _ _ _ _ _ _ _ w _ c.reduced-p.ensures _ _ _ c.meet-m.result c.kind-k.ensures.0 c.operand_count-c.ensures.0 c.unpack-part.ensures c.meet-m.ensures) c.in_default.not-Ways; less = not_opened_less _ _ _ }

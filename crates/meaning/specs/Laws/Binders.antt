@@ -4,7 +4,8 @@ use Rattle.std.proofs.Common.{sym, ◌∙◌, arith, get_or-set_same}
 use Rattle.std.proofs.Math.Path.{ap, subst}
 use Rattle.std.proofs.Math.Bool.{true, false}
 use Rattle.std.proofs.Math.Option.{some}
-use Rattle.std.proofs.Math.Logic.{inl, inr, Iff·trans, ⊎_elim}
+use Rattle.std.proofs.Math.Logic.{inl, inr, ⊎_elim}
+use Rattle.std.proofs.Math.Logic.Iff
 use mathlib.Core.List.{List, [], ◌∷◌, ◌++◌, map as lmap}
 use Rattle.std.proofs.Math.ListN.{get_or, get_or-eq_default}
 use borrow.Author.Tests.{eqb-true, leb-true}
@@ -104,9 +105,9 @@ module _ (table : List ℕ) (n : ℕ) (ok : check table ≡ Accepted n) (r : ℕ
       → ((bs : List Binding) → Rising bs → quantify q rec r (operand_of table r 2) ρ bs (value t) ↔ Q bs) → May table r ρ (boolean t) ↔ Over table r ρ (λ ms bs. Q bs)
   unfolding loose_of
   quantified_is q e t Q k =
-      Iff·trans (said _ e (boolean t))
+      Iff.trans (said _ e (boolean t))
       (over-is (λ bs. quantify q rec r (operand_of table r 2) ρ bs then (λ x. gives (boolean x))) (boolean t) (λ vs bs. Q bs)
-      (λ vs bs f. Iff·trans (truth_is (quantify q rec r (operand_of table r 2) ρ bs) t) (k bs (rising vs bs f))))
+      (λ vs bs f. Iff.trans (truth_is (quantify q rec r (operand_of table r 2) ρ bs) t) (k bs (rising vs bs f))))
 
   -- ---- one part more
 
@@ -154,7 +155,7 @@ module _ (table : List ℕ) (n : ℕ) (ok : check table ≡ Accepted n) (r : ℕ
       → ((us : Items) (b : Binding) (new rest : List Value) → part b new → all us (items_of (new ++ rest)) ≡ build_on (all us (items_of new)) (λ ws. all ws (items_of rest)))
       → (bs : List Binding) (v : Value) → comprehension rec r k (operand_of table r 2) ρ add bs (value v) ↔ ((es : List Value) × Added (Condition table r ρ) part bs es × (closed k (all none (items_of es)) ≡ is v))
   comprehension_is k add all part f g j bs v =
-      Iff·trans (collected_value (holds rec r (operand_of table r 2) ρ) add all part f g j k bs v)
+      Iff.trans (collected_value (holds rec r (operand_of table r 2) ρ) add all part f g j k bs v)
       (λ (es, a, d). (es, added_map to part bs es a, d), λ (es, a, d). (es, added_map from part bs es a, d))
 
   -- ---- what bindings add, and what is held
@@ -304,40 +305,40 @@ module _ (table : List ℕ) (n : ℕ) (ok : check table ≡ Accepted n) (r : ℕ
       record {
         forall_true = λ e.
             quantified_is forall (node_is 14 e) true _
-            (λ bs h. Iff·trans (until_false_true (holds rec r (operand_of table r 2) ρ) bs) (λ f β i. to true β (f β i), λ f β i. from true β (f β i)));
+            (λ bs h. Iff.trans (until_false_true (holds rec r (operand_of table r 2) ρ) bs) (λ f β i. to true β (f β i), λ f β i. from true β (f β i)));
         forall_false = λ e.
             quantified_is forall (node_is 14 e) false _
-            (λ bs h. Iff·trans (until_false_false (holds rec r (operand_of table r 2) ρ) bs) (first-map (to true) (to false), first-map (from true) (from false)));
+            (λ bs h. Iff.trans (until_false_false (holds rec r (operand_of table r 2) ρ) bs) (first-map (to true) (to false), first-map (from true) (from false)));
         exists_true = λ e.
             quantified_is exists (node_is 15 e) true _
-            (λ bs h. Iff·trans (until_true_true (holds rec r (operand_of table r 2) ρ) bs) (first-map (to false) (to true), first-map (from false) (from true)));
+            (λ bs h. Iff.trans (until_true_true (holds rec r (operand_of table r 2) ρ) bs) (first-map (to false) (to true), first-map (from false) (from true)));
         exists_false = λ e.
             quantified_is exists (node_is 15 e) false _
-            (λ bs h. Iff·trans (until_true_false (holds rec r (operand_of table r 2) ρ) bs) (λ f β i. to false β (f β i), λ f β i. from false β (f β i)));
+            (λ bs h. Iff.trans (until_true_false (holds rec r (operand_of table r 2) ρ) bs) (λ f β i. to false β (f β i), λ f β i. from false β (f β i)));
         exists1_true = λ e.
             quantified_is exists1 (node_is 16 e) true _
-            (λ bs h. Iff·trans (unique_true rec r (operand_of table r 2) ρ bs h) (λ (β, o). (β, one_map (to false) (to true) o), λ (β, o). (β, one_map (from false) (from true) o)));
+            (λ bs h. Iff.trans (unique_true rec r (operand_of table r 2) ρ bs h) (λ (β, o). (β, one_map (to false) (to true) o), λ (β, o). (β, one_map (from false) (from true) o)));
         exists1_false = λ e.
             quantified_is exists1 (node_is 16 e) false _
-            (λ bs h. Iff·trans (unique_false rec r (operand_of table r 2) ρ bs h) (
+            (λ bs h. Iff.trans (unique_false rec r (operand_of table r 2) ρ bs h) (
               λ w. ⊎_elim (λ f. inl (λ β i. to false β (f β i))) (λ (f, s). inr (λ β i. ((f β i).0, to (f β i).0 β (f β i).1), several_map (to true) s)) w,
               λ w. ⊎_elim (λ f. inl (λ β i. from false β (f β i))) (λ (f, s). inr (λ β i. ((f β i).0, from (f β i).0 β (f β i).1), several_map (from true) s)) w,
             ));
         iota_value = λ e v.
-            Iff·trans (said _ (node_is 17 e) v)
+            Iff.trans (said _ (node_is 17 e) v)
             (over-is (λ bs. satisfying rec r (operand_of table r 2) ρ bs then (λ sat. unique r P sat)) v _ (λ vs bs f. unique_is (name_in table r) (named_pattern e) (named_low e) vs bs f v));
         set_comprehension_is = λ e v.
-            Iff·trans (said _ (node_is 18 e) v)
+            Iff.trans (said _ (node_is 18 e) v)
             (over-is (λ bs. comprehension rec r set (operand_of table r 2) ρ (add_one rec r add_member (operand_of table r 3) ρ) bs) v _
             (λ vs bs f. comprehension_is set (add_one rec r add_member (operand_of table r 3) ρ) add_members (Element table r ρ) (λ us. refl) (one_is add_member add_members (λ us w. whole (add_member us w)))
             (one_more add_member add_members (λ us w ws. refl) (λ us w. whole (add_member us w))) bs v));
         sequence_comprehension_is = λ e v.
-            Iff·trans (said _ (node_is 19 e) v)
+            Iff.trans (said _ (node_is 19 e) v)
             (over_integers (λ bs. comprehension rec r sequence (operand_of table r 2) ρ (add_one rec r add_item (operand_of table r 3) ρ) bs) v _
             (λ bs. comprehension_is sequence (add_one rec r add_item (operand_of table r 3) ρ) add_items (Element table r ρ) (λ us. refl) (one_is add_item add_items (λ us w. whole (add_item us w)))
             (one_more add_item add_items (λ us w ws. refl) (λ us w. whole (add_item us w))) bs v));
         map_comprehension_is = λ e v.
-            Iff·trans (said _ (node_is 20 e) v)
+            Iff.trans (said _ (node_is 20 e) v)
             (over-is (λ bs. comprehension rec r map (operand_of table r 2) ρ (add_pair rec r (operand_of table r 3) (operand_of table r 4) ρ) bs) v _
             (λ vs bs f. comprehension_is map (add_pair rec r (operand_of table r 3) (operand_of table r 4) ρ) add_entries (Maplet table r ρ) (λ us. refl) pair_is pair_more bs v));
       }

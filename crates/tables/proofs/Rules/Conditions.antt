@@ -13,7 +13,7 @@ use Rattle.prelude.proofs.Absurd.{never}
 use Rattle.prelude.proofs.Truth.{or_cases}
 use Rattle.tables.specs.declared.Role.{Role}
 use Rattle.tables.specs.declared.Role.TheVariants.{Plain, Condition, Body, Pattern, Name}
-use Rattle.tables.specs.Record.{Record, shape, role_at, is_fit}
+use Rattle.tables.specs.Record.{Record, role_at, is_fit}
 use Rattle.tables.specs.Table.{record_at, kind_at}
 use Rattle.tables.specs.Sheet.{is_loose, loose, is_condition, pattern_of, in_condition}
 use Rattle.tables.specs.Check.{chooses, fault8}

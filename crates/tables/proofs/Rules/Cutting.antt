@@ -15,7 +15,6 @@ use Rattle.prelude.proofs.Absurd.{never}
 use Rattle.prelude.proofs.Truth.{by_test, by_lower}
 use Rattle.tables.specs.Record.{Record, Head, nothing, boolean, integer, quote, name, unary, binary, unknown, Shape, shape, size, head_of, field, name_of, operator, integer_of, quote_of, fits, is_known, is_fit}
 use Rattle.tables.specs.Table.{first_record, Next, end, fault, one, next, Cut, on_next, cut_by, cut}
-use Rattle.tables.specs.Accepted.{records}
 use Rattle.tables.specs.Rules.{FitLength, Known, Unfit, few_left, length_under, length_past, length_unfit, not_known, after_first, Broken4, RecordsOf}
 use Rattle.tables.proofs.Rules.Tells.{Tells, refuted, tells_as, tells_or, tells_and, tells_lower, tells_most, tells_same, tells_true}
 

@@ -2,7 +2,6 @@
 -- `compare_items` one more than the number of bytes left of the first items.
 use mathlib.Core.Path.{refl}
 use mathlib.Core.Logic.{inl, inr}
-use Prim.Native.Nat.{◌-◌}
 use native.Mathlib.Omega.{arith}
 use Rattle.values.proofs.Ordering.{both, by_kinds, collections, first_items, second_items, ordered_by_items, both_none, first-none, second_none, begun, rest_items, items_first_lower, items_first_higher, items_first_same}
 use Rattle.values.proofs.+compare_compare_items.Goals as goal

@@ -1,5 +1,4 @@
 -- `copy_bytes` meets its contract. After i turns the first i bytes are copied; what is left to copy falls.
-use Prim.Native.Nat.{◌-◌}
 use native.Mathlib.Omega.{arith}
 use Rattle.values.proofs.Copying.{copying_none, copying_length, copying_more, copying_all}
 use Rattle.values.proofs.copy_bytes.Goals as goal

@@ -1,6 +1,6 @@
 -- `collections::finding::count_of` meets its contract: what is counted and what is left are all.
 use mathlib.Core.Path.{ap}
-use Prim.Native.Nat.{ℕ, ◌+◌, ◌-◌}
+use Prim.Native.Nat.{ℕ, ◌+◌}
 use native.Mathlib.Omega.{arith}
 use Rattle.values.specs.Value.{count}
 use Rattle.values.proofs.Records.{holds}

@@ -1,6 +1,6 @@
 -- `collections::finding::item_at` meets its contract: the item looked for is, of those left, the one that is `left` items on.
 use mathlib.Core.Path.{refl, ap, ◌∙◌}
-use Prim.Native.Nat.{ℕ, ◌+◌, ◌-◌}
+use Prim.Native.Nat.{ℕ, ◌+◌}
 use native.Mathlib.Omega.{arith}
 use Rattle.values.proofs.Records.{holds}
 use Rattle.collections.proofs.Walks.{walk_start, walk_run, walk_step, nth_on, item_found, item_missing}

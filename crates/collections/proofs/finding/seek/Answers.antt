@@ -1,8 +1,7 @@
 -- `collections::finding::seek` meets its contract: what is found from here on is what is found from the start on.
 use mathlib.Core.Path.{sym, ap, subst}
 use mathlib.Core.Bool.{Bool}
-use mathlib.Core.Logic.{⊎_elim}
-use Prim.Native.Nat.{ℕ, ◌+◌, ◌-◌, ◌<◌}
+use Prim.Native.Nat.{ℕ, ◌+◌, ◌<◌}
 use native.Mathlib.Omega.{arith}
 use Rattle.integers.specs.Bytes.{word}
 use Rattle.integers.specs.declared.Order.{Order}
@@ -63,7 +62,7 @@ loop-p-preserved c =
     let goal : Bool → Type 0 = λ key. Looking a.s.now a.at a.x a.entries (l.p + n) key in (
       l.invariant.0,
       elim c.if-key.branch [
-        then-key+in-Higher w ↦ subst goal (sym w.key-is) (look_on _ _ _ _ _ _ l.invariant.1 lt w.if-key.true _ w.compare.ensures w.in-Higher.is n e)
+        | then-key+in-Higher w ↦ subst goal (sym w.key-is) (look_on _ _ _ _ _ _ l.invariant.1 lt w.if-key.true _ w.compare.ensures w.in-Higher.is n e)
         | else-key w ↦ subst goal (sym w.key-is) (look_past _ _ _ _ _ _ l.invariant.1 lt w.if-key.false n e)
       ],
     )

@@ -3,6 +3,7 @@ use Prim.Native.Nat.{◌-◌}
 use Rattle.forming.proofs.Framing.{clear_start, clear_none, clear_some, clear_end}
 use native.Mathlib.Omega.{arith}
 use Rattle.forming.proofs.masks.clear.Goals as goal
+use Rattle.forming.proofs.masks.clear.Goals.{then-left-eq0, else-left-eq0}
 
 pub loop-x-init : goal.loop-x-init
 loop-x-init c = clear_start _ _
@@ -21,7 +22,10 @@ loop-x-smaller c = omega arith
 
 pub loop-x-preserved : goal.loop-x-preserved
 loop-x-preserved c =
-    ⊎_elim (λ x. rw x.1 (clear_none _ _ _ _ _ (omega arith) c.loop-x.invariant x.0.taken c.requires)) (λ x. rw x.1 (clear_some _ _ _ _ _ (omega arith) c.loop-x.invariant x.0.left)) c.if-left-eq0.branch
+    elim c.if-left-eq0.branch [
+      then-left-eq0 w ↦ rw w.found-is (clear_none _ _ _ _ _ (omega arith) c.loop-x.invariant w.if-left-eq0.true c.requires)
+      | else-left-eq0 w ↦ rw w.found-is (clear_some _ _ _ _ _ (omega arith) c.loop-x.invariant w.if-left-eq0.false)
+    ]
 
 pub returns : goal.returns
 returns c = clear_end _ _ _ _ _ (omega arith) c.loop-x.invariant

@@ -5,6 +5,7 @@ use mathlib.Core.Path.{sym}
 use Rattle.prelude.proofs.Absurd.{true_false}
 use Rattle.forming.proofs.Repeating.{agrees_more}
 use Rattle.forming.proofs.rows.agrees.Goals as goal
+use Rattle.forming.proofs.rows.agrees.Goals.{then-a-ne0+else-a-b, else-a-ne0}
 
 pub loop-x-init : goal.loop-x-init
 loop-x-init c = λ y l. absurd (omega arith)
@@ -29,7 +30,7 @@ loop-x-smaller c = omega arith
 
 pub loop-x-preserved : goal.loop-x-preserved
 loop-x-preserved c =
-    agrees_more c.args.found.now c.args.rows.now c.args.r _ c.loop-x.invariant (λ f. ⊎_elim (λ z. sym z.1.left) (λ z. absurd (f z.left)) c.if-a-ne0.branch)
+    agrees_more c.args.found.now c.args.rows.now c.args.r _ c.loop-x.invariant (λ f. elim c.if-a-ne0.branch [ then-a-ne0+else-a-b w ↦ sym w.if-a-b.false | else-a-ne0 w ↦ absurd (f w.if-a-ne0.false) ])
 
 pub returns : goal.returns
 returns c = λ e y l f. c.loop-x.invariant y (omega arith) f

@@ -36,7 +36,7 @@ size_of-right-requires t c =
 
 pub returns-then-own-k : goal.returns-then-own-k
 returns-then-own-k t c =
-    λ b st. size_halved _ _ _ c.requires.0 c.args.k c.requires.1 (sym c.kind-own.ensures.0 ∙ c.if-own-k.true) _ c.operand-l.ensures.0 _ c.operand-r.ensures.0 _ _ b (c.type_size.ensures b st) (c.size_of-right.ensures b st) _ c.sum.ensures
+    λ b st. size_halved _ _ _ c.requires.0 c.args.k c.requires.1 (sym c.kind-own.ensures.0 ∙ c.if-own-k.true) _ c.operand-l.ensures.0 _ c.operand-r.ensures.0 _ _ b (c.size_of-left.ensures b st) (c.size_of-right.ensures b st) _ c.sum.ensures
 
 pub field-x-requires : goal.field-x-requires
 field-x-requires t c = name_field _ _ _ c.requires.0 (sym c.kind-own.ensures.0 ∙ c.if-own-eq-NAME_PATTERN.true)

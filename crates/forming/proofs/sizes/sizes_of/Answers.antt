@@ -25,4 +25,4 @@ size_of-right-requires c =
 
 pub returns : goal.returns
 returns c =
-    λ b st. sizes_told _ _ _ c.requires.0.readable c.args.k (c.splits-halved.ensures c.if-not-halved.false) c.requires.0.of_kind _ c.operand-l.ensures.0 _ c.operand-r.ensures.0 _ _ b (c.type_size.ensures b st) (c.size_of-right.ensures b st) _ c.pair.ensures
+    λ b st. sizes_told _ _ _ c.requires.0.readable c.args.k (c.splits-halved.ensures c.if-not-halved.false) c.requires.0.of_kind _ c.operand-l.ensures.0 _ c.operand-r.ensures.0 _ _ b (c.size_of-left.ensures b st) (c.size_of-right.ensures b st) _ c.pair.ensures

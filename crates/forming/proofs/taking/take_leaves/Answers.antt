@@ -71,7 +71,8 @@ loop-head-preserved-then-is_composed c =
 
 pub match_leaf-fits-requires : goal.match_leaf-fits-requires
 match_leaf-fits-requires c =
-    leaf_asked _ _ _ _ _ _ c.requires _ _ _ c.loop-head.invariant (omega arith) (composed_told c.kind-k.ensures.0 c.is_composed.ensures c.if-is_composed.false)
+    let h = leaf_asked _ _ _ _ _ _ c.requires _ _ _ c.loop-head.invariant (omega arith) (composed_told c.kind-k.ensures.0 c.is_composed.ensures c.if-is_composed.false) in
+    record { leaf_held = h.0; part_held = h.1 }
 
 pub returns-then-not-fits-2 : goal.returns-then-not-fits-2
 returns-then-not-fits-2 c =

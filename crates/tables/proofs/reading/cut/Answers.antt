@@ -1,6 +1,5 @@
 -- The records that are left are those of the bytes that are left.
 use mathlib.Core.Path.{refl}
-use Prim.Native.Nat.{◌-◌}
 use native.Mathlib.Omega.{arith}
 use lib.ListN.{length-drop}
 use Rattle.tables.proofs.Cutting.{part-rest, measured, measured_within, next_long, noted, not_noted, cutting_start, cutting_end, turn_bad, cutting_more}
@@ -56,7 +55,7 @@ loop-at-preserved c =
     let m = measured c.args.table.now c.loop-at.at c.measure-len.result c.measure-len.ensures in (
       cutting_more c.args.table.now c.loop-at.index c.loop-at.at c.loop-at.count c.loop-at.invariant.0 c.loop-at-test.true c.measure-len.result c.if-count-lt-MOST_RECORDS.index (m.good (omega (arith, c.if-len-eq0.false))) (m.long (omega (arith, c.if-len-eq0.false)))
           (elim c.if-count-lt-MOST_RECORDS.branch [
-            then-count-lt-MOST_RECORDS w ↦ noted c.args.table.now c.loop-at.index c.if-count-lt-MOST_RECORDS.index c.loop-at.count c.loop-at.at c.measure-len.result c.entry-e.result c.loop-at.invariant.0.long c.entry-e.ensures w.index-is
+            | then-count-lt-MOST_RECORDS w ↦ noted c.args.table.now c.loop-at.index c.if-count-lt-MOST_RECORDS.index c.loop-at.count c.loop-at.at c.measure-len.result c.entry-e.result c.loop-at.invariant.0.long c.entry-e.ensures w.index-is
             | else-count-lt-MOST_RECORDS w ↦ not_noted c.args.table.now c.loop-at.index c.if-count-lt-MOST_RECORDS.index c.loop-at.count c.loop-at.at c.measure-len.result c.loop-at.invariant.0.long w.index-is w.if-count-lt-MOST_RECORDS.false
           ]),
       c.loop-at.invariant.1,

@@ -1,6 +1,5 @@
 -- `Value::read` meets its contract. After k turns the first k bytes of the record stand before zeros; what is left to copy falls.
 use mathlib.Core.Path.{refl}
-use Prim.Native.Nat.{◌-◌}
 use native.Mathlib.Omega.{arith}
 use Rattle.values.proofs.Copying.{showing_none, showing_more, showing_all}
 use Rattle.values.proofs.Value.read.Goals as goal

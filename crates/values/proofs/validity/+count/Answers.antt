@@ -1,5 +1,4 @@
 -- `count` meets its contract. The measure is the number of bytes left.
-use Prim.Native.Nat.{◌-◌}
 use native.Mathlib.Omega.{arith}
 use Rattle.values.proofs.Records.{first_held}
 use Rattle.values.proofs.Ordering.{rest_items}

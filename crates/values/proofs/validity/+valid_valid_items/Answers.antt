@@ -1,5 +1,4 @@
 -- The proof of the cycle of calls {valid, valid_items}. The measures are twice the bytes from the place on, and one more for the items.
-use Prim.Native.Nat.{◌-◌}
 use mathlib.Core.Path.{sym, ◌∙◌}
 use native.Mathlib.Omega.{arith}
 use Rattle.values.proofs.Telling.{tells_false}
