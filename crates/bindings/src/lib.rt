@@ -197,7 +197,7 @@ pub fn reach(
 // What each name stands for under binding k, which is in the window.
 pub fn under(s: &[u8], to: usize, cursor: Cursor, k: usize, words: &mut [u32; Env::NAMES])
     requires { Underneath s.now to cursor k (record { words = words.now }) }
-    ensures { UnderBinding s.now to cursor k (record { words = words.entry.now }) (record { words = words.exit.now }) }
+    ensures { UnderBinding s.now to cursor k (record { words = words.old }) (record { words = words.new }) }
 {
     let mut at = to + 4 * (cursor.width * (k - cursor.from));
     let mut left = cursor.names;

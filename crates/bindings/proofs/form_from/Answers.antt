@@ -6,7 +6,7 @@ use Rattle.bindings.proofs.form_from.Goals as goal
 
 pub form_rows-r-requires : goal.form_rows-r-requires
 form_rows-r-requires c =
-    let a = rows_asked _ c.args.at c.args.whole c.args.to (c.args.to - 0) (omega arith) (c.requires.lent_from.values, c.requires.lent_from.are) c.requires.lent_from.short in (c.requires.readable, (a.0, a.1, refl, refl))
+    let a = rows_asked _ c.args.at c.args.whole c.args.to (c.args.to - 0) (omega arith) (c.requires.lent_from.values, c.requires.lent_from.are) c.requires.lent_from.short in record { readable = c.requires.readable; bindable = (a.0, a.1, refl, refl) }
 
 pub cursor_over-c-requires : goal.cursor_over-c-requires
 cursor_over-c-requires c =

@@ -22,7 +22,7 @@ returns-then-kind-eq-ANY_PATTERN c =
     any_opened _ _ _ c.requires.readable (sym c.kind-kind.ensures.0 ∙ c.if-kind-eq-ANY_PATTERN.true) _ c.args.at c.args.whole c.args.to c.requires.lent _ c.open_any-c.ensures
 
 pub form_from-requires : goal.form_from-requires
-form_from-requires c = (c.requires.readable, first_lent _ _ _ c.args.at c.args.whole c.args.to c.requires.lent)
+form_from-requires c = record { readable = c.requires.readable; lent_from = first_lent _ _ _ c.args.at c.args.whole c.args.to c.requires.lent }
 
 pub returns : goal.returns
 returns c = opened_first _ _ _ _ c.args.at c.args.whole c.args.to _ c.form_from.ensures

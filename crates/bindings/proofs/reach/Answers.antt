@@ -18,7 +18,7 @@ returns-then-cursor-k-le-WINDOW c =
     reach_there _ _ _ c.args.at c.args.whole c.args.to _ _ c.requires.reachable (omega arith) (omega arith)
 
 pub form_from-r-requires : goal.form_from-r-requires
-form_from-r-requires c = (c.requires.readable, reach_lent _ _ _ c.args.at c.args.whole c.args.to _ _ c.requires.reachable)
+form_from-r-requires c = record { readable = c.requires.readable; lent_from = reach_lent _ _ _ c.args.at c.args.whole c.args.to _ _ c.requires.reachable }
 
 pub returns-in-Refused : goal.returns-in-Refused
 returns-in-Refused c =

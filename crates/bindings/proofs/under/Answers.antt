@@ -3,6 +3,7 @@ use Rattle.bindings.proofs.Windows.{under_start, under_in, under_room, under_som
 use native.Mathlib.Omega.{arith}
 use mathlib.Core.Path.{refl}
 use Rattle.bindings.proofs.under.Goals as goal
+use Rattle.bindings.proofs.under.Goals.{then-left-eq1, else-left-eq1}
 
 pub overflow_sub-at : goal.overflow_sub-at
 overflow_sub-at c = omega (arith, c.requires.within.low)
@@ -44,7 +45,10 @@ loop-left-smaller c = omega arith
 
 pub loop-left-preserved : goal.loop-left-preserved
 loop-left-preserved c =
-    λ c' env h a b d. ⊎_elim (λ x. rw (x.2, x.3) (under_some _ _ _ _ _ h _ _ _ _ (c.loop-left.invariant c' env h a b d) (omega arith) x.0.taken _ x.1.ensures)) (λ x. rw (x.1, x.2) (under_none _ _ _ _ _ h _ _ _ _ (c.loop-left.invariant c' env h a b d) (omega arith) x.0.left)) c.if-left-eq1.branch
+    λ c' env h a b d. elim c.if-left-eq1.branch [
+      | then-left-eq1 w ↦ rw (w.words-is, w.at-is) (under_some _ _ _ _ _ h _ _ _ _ (c.loop-left.invariant c' env h a b d) (omega arith) w.if-left-eq1.true _ w.read_word.ensures)
+      | else-left-eq1 w ↦ rw (w.words-is, w.at-is) (under_none _ _ _ _ _ h _ _ _ _ (c.loop-left.invariant c' env h a b d) (omega arith) w.if-left-eq1.false)
+    ]
 
 pub returns : goal.returns
 returns c =

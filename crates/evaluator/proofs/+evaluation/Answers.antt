@@ -777,7 +777,7 @@ quantify-all-preserved t c =
     scans_more c.all.invariant c.all-test.true c.holds-h.ensures (valued c.holds-h.result c.is_refusal-in-all.ensures c.if-is_refusal-2.false) (agrees_no _ _ (sym c.agree.ensures ∙ c.if-agree.false)) refl refl
 
 -- Both ways out of the loop.
-quantify_joined : (t : ℕ) (c : goal.After-put-boolean-arg) → Settled c.args.table.now c.args.r c.begin.new.1.1.1.0 c.args.base (env_of c.args.env.now) c.args.want (lent c.begin.new.1.1.1.1.1.1.0) c.all_test.s (lent c.all_test.run) c.all_test.found
+quantify_joined : (t : ℕ) (c : goal.After-put-boolean-arg) → Settled c.args.table.now c.args.r c.begin.new.s c.args.base (env_of c.args.env.now) c.args.want (lent c.begin.new.run) c.all_test.s (lent c.all_test.run) c.all_test.found
 quantify_joined t c = ⊎_elim (λ x. settled_as x.1 (ap lent x.2) x.3 (scans_end c.all.invariant x.0.left)) (λ x. settled_as x.11 (ap lent x.12) x.13 (scans_hit c.all.invariant x.0.taken x.4.ensures (valued x.4.result x.7.ensures x.8.left) (agrees_yes _ _ (sym x.9.ensures ∙ x.10.taken)))) c.all_test.branch
 
 pub quantify-put_boolean-requires : goal.quantify-put_boolean-requires

@@ -28,7 +28,7 @@ overflow_add-result c =
 
 pub shape_of-out : goal.shape_of-out
 shape_of-out c =
-    omega (arith, length-set c.put_outcome-last.new.out c.put_outcome-last.result 10, c.put_outcome-last.auto.1.1.0, length-set c.put_list-end.new.out c.put_list-end.result 32, wrote_length c.put_list-end.ensures)
+    omega (arith, length-set c.put_outcome-last.new.out c.put_outcome-last.result 10, c.put_outcome-last.auto.out, length-set c.put_list-end.new.out c.put_list-end.result 32, wrote_length c.put_list-end.ensures)
 
 pub returns : goal.returns
 returns c =

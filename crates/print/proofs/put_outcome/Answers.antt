@@ -12,7 +12,7 @@ pub put_value-requires : goal.put_value-requires
 put_value-requires c = outcome_value c.requires c.if-number-eq0.true
 
 pub shape_of-out-then-number-eq0 : goal.shape_of-out-then-number-eq0
-shape_of-out-then-number-eq0 c = c.put_value.auto.1.1.0 ∙ length-set c.args.out.now c.args.at 61
+shape_of-out-then-number-eq0 c = c.put_value.auto.out ∙ length-set c.args.out.now c.args.at 61
 
 pub returns-then-number-eq0 : goal.returns-then-number-eq0
 returns-then-number-eq0 c = value_shown c.if-number-eq0.true c.put_value.ensures

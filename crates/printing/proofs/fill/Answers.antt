@@ -26,11 +26,11 @@ loop-at-smaller c =
 
 pub loop-at-preserved : goal.loop-at-preserved
 loop-at-preserved c =
-    filling_more c.args.table.now c.args.index.now c.args.count c.loop-at.s c.loop-at.run c.loop-at.out c.args.out.now c.args.p c.loop-at.q c.loop-at.invariant c.put_next-q.new.s c.put_next-q.new.run c.put_next-q.new.out c.put_next-q.result c.put_next-q.ensures c.put_next-q.auto.1.1.1.1.1.0
+    filling_more c.args.table.now c.args.index.now c.args.count c.loop-at.s c.loop-at.run c.loop-at.out c.args.out.now c.args.p c.loop-at.q c.loop-at.invariant c.put_next-q.new.s c.put_next-q.new.run c.put_next-q.new.out c.put_next-q.result c.put_next-q.ensures c.put_next-q.auto.out
 
 pub put_last-requires : goal.put_last-requires
 put_last-requires c = (c.loop-at.invariant.grew.inside, c.loop-at.invariant.grew.stands.few)
 
 pub returns : goal.returns
 returns c =
-    filling_end c.args.table.now c.args.index.now c.args.count c.loop-at.s c.loop-at.run c.loop-at.out c.args.out.now c.args.p c.loop-at.q c.loop-at.invariant (sym c.is_due.ensures ∙ c.loop-at-test.false) (omega (arith, c.requires.room)) c.put_last.new.out c.put_last.result c.put_last.ensures c.put_last.auto.0
+    filling_end c.args.table.now c.args.index.now c.args.count c.loop-at.s c.loop-at.run c.loop-at.out c.args.out.now c.args.p c.loop-at.q c.loop-at.invariant (sym c.is_due.ensures ∙ c.loop-at-test.false) (omega (arith, c.requires.room)) c.put_last.new.out c.put_last.result c.put_last.ensures c.put_last.auto.out

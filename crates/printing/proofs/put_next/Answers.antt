@@ -30,4 +30,4 @@ advance-more-requires c =
 
 pub returns : goal.returns
 returns c =
-    lined c.args.table.now c.args.index.now c.args.count c.args.s.now c.args.run.now c.args.out.now c.args.p c.requires.0 c.requires.1 c.run_sheet-o.new.s c.run_sheet-o.new.run c.run_sheet-o.result (told_here c) c.list_of-list.result c.list_of-list.ensures c.number.result c.number.ensures c.put_line-at.new.out c.put_line-at.result c.put_line-at.ensures c.advance-more.new.run c.advance-more.result c.advance-more.ensures c.run_sheet-o.auto.1.1.1.0 _ (omega arith)
+    lined c.args.table.now c.args.index.now c.args.count c.args.s.now c.args.run.now c.args.out.now c.args.p c.requires.0 c.requires.1 c.run_sheet-o.new.s c.run_sheet-o.new.run c.run_sheet-o.result (told_here c) c.list_of-list.result c.list_of-list.ensures c.number.result c.number.ensures c.put_line-at.new.out c.put_line-at.result c.put_line-at.ensures c.advance-more.new.run c.advance-more.result c.advance-more.ensures c.run_sheet-o.auto.s _ (omega arith)

@@ -3,6 +3,7 @@ use mathlib.Core.Logic.{⊎_elim}
 use Rattle.bindings.proofs.Writing.{row_start, row_end, row_in, row_room, row_some, row-none, row_length, row_at}
 use native.Mathlib.Omega.{arith}
 use Rattle.bindings.proofs.filling.put_row.Goals as goal
+use Rattle.bindings.proofs.filling.put_row.Goals.{then-left-eq1, else-left-eq1}
 
 pub loop-left-init : goal.loop-left-init
 loop-left-init c = row_start _ _ _ _ (row_length _ _ c.requires.held) c.requires.is_mask
@@ -38,7 +39,10 @@ loop-left-smaller c = omega arith
 
 pub loop-left-preserved : goal.loop-left-preserved
 loop-left-preserved c =
-    ⊎_elim (λ x. rw (x.6, x.7) (row_some _ _ _ _ (row_length _ _ c.requires.held) c.requires.is_mask _ _ _ _ c.loop-left.invariant (omega arith) x.0.taken _ _ (sym (row_at _ _ c.requires.held _ (row_in _ _ _ _ (row_length _ _ c.requires.held) c.requires.is_mask _ _ _ _ c.loop-left.invariant (omega arith)))) (omega (arith, row_room _ _ _ _ (row_length _ _ c.requires.held) c.requires.is_mask _ _ _ _ c.loop-left.invariant (omega arith) x.0.taken, c.requires.room, c.loop-left.invariant.outside.long)) x.3.ensures)) (λ x. rw (x.1, x.2) (row-none _ _ _ _ (row_length _ _ c.requires.held) c.requires.is_mask _ _ _ _ c.loop-left.invariant (omega arith) x.0.left)) c.if-left-eq1.branch
+    elim c.if-left-eq1.branch [
+      | then-left-eq1 w ↦ rw (w.s-is, w.at-is) (row_some _ _ _ _ (row_length _ _ c.requires.held) c.requires.is_mask _ _ _ _ c.loop-left.invariant (omega arith) w.if-left-eq1.true _ _ (sym (row_at _ _ c.requires.held _ (row_in _ _ _ _ (row_length _ _ c.requires.held) c.requires.is_mask _ _ _ _ c.loop-left.invariant (omega arith)))) (omega (arith, row_room _ _ _ _ (row_length _ _ c.requires.held) c.requires.is_mask _ _ _ _ c.loop-left.invariant (omega arith) w.if-left-eq1.true, c.requires.room, c.loop-left.invariant.outside.long)) w.put_word.ensures)
+      | else-left-eq1 w ↦ rw (w.s-is, w.at-is) (row-none _ _ _ _ (row_length _ _ c.requires.held) c.requires.is_mask _ _ _ _ c.loop-left.invariant (omega arith) w.if-left-eq1.false)
+    ]
 
 pub shape_of-s : goal.shape_of-s
 shape_of-s c = c.loop-left.invariant.outside.long

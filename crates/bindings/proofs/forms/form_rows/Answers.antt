@@ -5,7 +5,7 @@ use native.Mathlib.Omega.{arith}
 use Rattle.bindings.proofs.forms.form_rows.Goals as goal
 
 pub is_wide-wide-requires : goal.is_wide-wide-requires
-is_wide-wide-requires c = (c.requires.readable, (c.requires.bindable.0, c.requires.bindable.1))
+is_wide-wide-requires c = record { readable = c.requires.readable; bindable = (c.requires.bindable.0, c.requires.bindable.1) }
 
 pub returns-then-wide : goal.returns-then-wide
 returns-then-wide c = form_wide _ _ _ c.args.at c.args.whole _ c.is_wide-wide.ensures c.if-wide.true _ _

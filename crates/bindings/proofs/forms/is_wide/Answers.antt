@@ -26,7 +26,10 @@ overflow_add-at-2 c =
 
 pub any_large-requires : goal.any_large-requires
 any_large-requires c =
-    (c.requires.readable, (members_held _ _ _ c.if-whole.false c.requires.bindable.0 _ c.length_of-n.ensures.is, c.requires.bindable.1))
+    record {
+      readable = c.requires.readable;
+      holds_items = (members_held _ _ _ c.if-whole.false c.requires.bindable.0 _ c.length_of-n.ensures.is, c.requires.bindable.1);
+    }
 
 pub returns : goal.returns
 returns c = tells_all _ _ _ _ _ _ c.if-whole.false _ c.length_of-n.ensures.is c.any_large.ensures

@@ -30,7 +30,7 @@ put-requires c =
 
 pub clear-requires : goal.clear-requires
 clear-requires c =
-    let g = granted (length c.args.scratch.now) (length c.args.res.now) c.args.table.now _ (sym c.admitted.ensures.answer ∙ c.in-Accepted.is) in omega (arith, g.enough, c.evaluated-o.auto.1.1.1.1.0)
+    let g = granted (length c.args.scratch.now) (length c.args.res.now) c.args.table.now _ (sym c.admitted.ensures.answer ∙ c.in-Accepted.is) in omega (arith, g.enough, c.evaluated-o.auto.scratch)
 
 pub pack_outcome-requires : goal.pack_outcome-requires
 pack_outcome-requires c =

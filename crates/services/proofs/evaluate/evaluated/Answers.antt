@@ -15,4 +15,4 @@ run_list-requires c =
 
 pub returns : goal.returns
 returns c =
-    λ buffer room. evaluated_ran _ c.args.scratch.now c.args.table.now c.args.list.now c.run_list.new.s c.run_list.result (evaluates_run c.args.table.now (length c.args.scratch.now) c.requires.0.enough _ c.requires.0.ok buffer c.args.list.now room c.if-list-gt-LIMIT.false) (c.run_list.auto.1.1.1.1.0 ∙ sym (part_long c.args.scratch.now c.requires.0.enough)) c.run_list.ensures
+    λ buffer room. evaluated_ran _ c.args.scratch.now c.args.table.now c.args.list.now c.run_list.new.s c.run_list.result (evaluates_run c.args.table.now (length c.args.scratch.now) c.requires.0.enough _ c.requires.0.ok buffer c.args.list.now room c.if-list-gt-LIMIT.false) (c.run_list.auto.s ∙ sym (part_long c.args.scratch.now c.requires.0.enough)) c.run_list.ensures

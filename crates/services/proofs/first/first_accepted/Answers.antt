@@ -17,4 +17,4 @@ store-requires c = (c.first_walk-walk.ensures.1, c.if-entries-lt-LIMIT.false)
 
 pub returns : goal.returns
 returns c =
-    first_left c.args.table.now c.args.scratch.now (walk_of c.args.entries.now c.args.len.now) c.requires.0.enough c.args.count c.requires.0.ok c.if-entries-lt-LIMIT.false c.first_walk-walk.new.s (c.first_walk-walk.auto.1.1.1.0 ∙ sym (part_long c.args.scratch.now c.requires.0.enough)) c.first_walk-walk.result c.first_walk-walk.ensures.0 _ c.store.ensures c.pack-2.result c.pack-2.ensures
+    first_left c.args.table.now c.args.scratch.now (walk_of c.args.entries.now c.args.len.now) c.requires.0.enough c.args.count c.requires.0.ok c.if-entries-lt-LIMIT.false c.first_walk-walk.new.s (c.first_walk-walk.auto.s ∙ sym (part_long c.args.scratch.now c.requires.0.enough)) c.first_walk-walk.result c.first_walk-walk.ensures.0 _ c.store.ensures c.pack-2.result c.pack-2.ensures

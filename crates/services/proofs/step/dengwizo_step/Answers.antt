@@ -17,7 +17,7 @@ step_accepted-answer-requires c =
 
 pub clear-requires : goal.clear-requires
 clear-requires c =
-    let g = granted (length c.args.scratch.now) 512 c.args.table.now _ (sym c.admitted.ensures.answer ∙ c.in-Accepted.is) in omega (arith, g.enough, c.step_accepted-answer.auto.1.1.1.1.1.0)
+    let g = granted (length c.args.scratch.now) 512 c.args.table.now _ (sym c.admitted.ensures.answer ∙ c.in-Accepted.is) in omega (arith, g.enough, c.step_accepted-answer.auto.scratch)
 
 pub returns-in-Refused : goal.returns-in-Refused
 returns-in-Refused c =

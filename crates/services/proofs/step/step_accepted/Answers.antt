@@ -21,4 +21,4 @@ store-requires c = (c.stepped_by-next.ensures.sized, c.if-entries-lt-LIMIT.false
 
 pub returns : goal.returns
 returns c =
-    step_left c.args.table.now c.args.scratch.now (walk_of c.args.entries.now c.args.len.now) c.requires.0.enough c.args.count c.requires.0.ok c.if-entries-lt-LIMIT.false c.stepped_by-next.new.s (c.stepped_by-next.auto.1.1.0 ∙ sym (part_long c.args.scratch.now c.requires.0.enough)) c.if-n-gt-LIMIT.false c.load-walk.result c.load-walk.ensures c.stepped_by-next.result c.stepped_by-next.ensures _ c.store.ensures
+    step_left c.args.table.now c.args.scratch.now (walk_of c.args.entries.now c.args.len.now) c.requires.0.enough c.args.count c.requires.0.ok c.if-entries-lt-LIMIT.false c.stepped_by-next.new.s (c.stepped_by-next.auto.s ∙ sym (part_long c.args.scratch.now c.requires.0.enough)) c.if-n-gt-LIMIT.false c.load-walk.result c.load-walk.ensures c.stepped_by-next.result c.stepped_by-next.ensures _ c.store.ensures
