@@ -11,7 +11,7 @@ use lib.Seq.{get_or-set_same, get_or-set_other}
 use mathlib.Mathlib.Data.Bool.Basic.{and_elim_left, and_elim_right}
 use Rattle.prelude.proofs.Absurd.{never}
 use Rattle.prelude.proofs.Truth.{by_test, or_false_both, by_lower}
-use Rattle.tables.specs.Record.{Record, is_expression, is_pattern, is_fit, named, operand, role_at}
+use Rattle.tables.specs.Record.{Record, is_expression, is_pattern, is_fit, operand, role_at}
 use Rattle.tables.specs.Table.{record_at, kind_at}
 use Rattle.tables.specs.Sheet.{is_in}
 use Rattle.tables.specs.Check.{is_of_sort, all_named, named_before, is_bad, has_bad, fault6}

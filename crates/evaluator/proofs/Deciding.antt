@@ -34,16 +34,11 @@ use Rattle.evaluator.proofs.Standing.{binder_readable}
 
 -- ---- the answer to a choice
 
-pub not_taken : (a : Answer) → OneOf (1 ∷ 2 ∷ 3 ∷ []) (tag_of answer.the_type a) → IsTaken a → ⊥
-not_taken (Taken i) k t = none k
-  where
-    none : OneOf (1 ∷ 2 ∷ 3 ∷ []) 0 → ⊥
-    none (inl h) = omega arith
-    none (inr (inl h)) = omega arith
-    none (inr (inr h)) = omega arith
-not_taken Many k t = t
-not_taken Short k t = t
-not_taken Beyond k t = t
+pub not_taken : (a : Answer) → ((i : ℕ) → a ≡ Taken i → ⊥) → IsTaken a → ⊥
+not_taken (Taken i) f t = f i refl
+not_taken Many f t = t
+not_taken Short f t = t
+not_taken Beyond f t = t
 
 -- ---- truths that agree
 

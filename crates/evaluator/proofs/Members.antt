@@ -251,10 +251,7 @@ module _ {table index : List ℕ} {r : ℕ} {s : List ℕ} {base : ℕ} {env : E
 abbrev Unlike : ℕ → ℕ → Type 0
 Unlike n k = OneOf (n ∷ []) k → ⊥
 
--- none of those that `eval` names, and of those that `binds` names
-abbrev pub Unlisted : ℕ → Type 0
-Unlisted k = ((((((((Unit {0} × Unlike 1 k) × Unlike 2 k) × Unlike 3 k) × Unlike 4 k) × (OneOf (5 ∷ 11 ∷ 21 ∷ []) k → ⊥)) × Unlike 6 k) × Unlike 10 k) × Unlike 9 k) × Unlike 22 k
-
+-- none of those that `binder` names
 abbrev pub Unbound : ℕ → Type 0
 Unbound k = (((Unit {0} × Unlike 12 k) × Unlike 13 k) × Unlike 16 k) × Unlike 17 k
 
@@ -268,20 +265,12 @@ least_or n k l = go (k - n) refl
     go zero e = inl (omega arith)
     go (suc d) e = inr (omega arith)
 
-pub from_seven : {k : ℕ} → Unlisted k → 1 ≤ k → k < 9 → Enumerated k
-from_seven {k} (((((((((u, a1), a2), a3), a4), a5), a6), a10), a9), a22) l m =
-    go (least_or 7 k (next_up 6 k (next_up 5 k (next_up 4 k (next_up 3 k (next_up 2 k (next_up 1 k l a1) a2) a3) a4) (λ x. a5 (inl x))) a6))
+pub seven_or_eight : {k : ℕ} → 7 ≤ k → k < 9 → Enumerated k
+seven_or_eight {k} l m = go (least_or 7 k l)
   where
     go : (k ≡ 7) ⊎ (8 ≤ k) → Enumerated k
     go (inl x) = inl x
     go (inr x) = inr (inl (omega arith))
-
-pub left_over : {k : ℕ} → Unlisted k → (k < 1) ⊎ (9 ≤ k) → Remaining k
-left_over w (inl l) = inl (omega arith)
-left_over {k} (((((((((u, a1), a2), a3), a4), a5), a6), a10), a9), a22) (inr l) = inr (next_up 11 k (next_up 10 k (next_up 9 k l a9) a10) (λ x. a5 (inr (inl x))), λ x. a5 (inr (inr x)), a22)
-
-pub from_eighteen : {k : ℕ} → Unbound k → 16 ≤ k → k < 21 → Comprehension k
-from_eighteen {k} ((((u, a12), a13), a16), a17) l m = (next_up 17 k (next_up 16 k l a16) a17, omega arith)
 
 pub unmatched : {k : ℕ} → Remaining k → (k ≡ 14 → ⊥) × (k ≡ 15 → ⊥) → Unbound k → (k < 16) ⊎ (21 ≤ k) → (k ≡ 0) ⊎ (23 ≤ k)
 unmatched (inl x) q w o = inl x

@@ -2,13 +2,12 @@
 use mathlib.Core.Path.{◌≡◌, refl, sym, ap, subst, ◌∙◌}
 use mathlib.Core.Bool.{Bool, true, false}
 use mathlib.Core.Logic.{inl, inr}
-use mathlib.Core.List.{List, [], ◌∷◌}
+use mathlib.Core.List.{List, []}
 use Prim.Native.Nat.{ℕ, ◌+◌, ◌*◌, ◌%◌, ◌≤◌, ◌<◌}
 use native.Mathlib.Omega.{arith}
 use lib.ListN.{length, get_or}
 use lib.Seq.{ext_get_or}
 use Rattle.prelude.specs.Membership.{In}
-use Rattle.prelude.proofs.Membership.{in_one}
 use Rattle.prelude.proofs.Truth.{by_lower}
 use Rattle.values.specs.Value.{Value}
 use Rattle.tables.specs.Record.{Record, is_pattern, is_composed, named as operands_of, operand}

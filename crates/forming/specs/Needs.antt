@@ -5,7 +5,6 @@ use Rattle.values.specs.Value.{Kind, number, Value, collection}
 use Rattle.tables.specs.Accepted.{records}
 use Rattle.parts.specs.declared.Part.{Part}
 use Rattle.parts.specs.Part.{PartIs}
-use Rattle.parts.specs.Word.{unpacked}
 use Rattle.patterns.specs.Binding.{Binding, names}
 use Rattle.patterns.specs.Pattern.{Pattern, name, items_of}
 use Rattle.patterns.specs.Relation.{Matches}

@@ -10,7 +10,7 @@ use lib.ListN.{length, get_or, drop, length-drop}
 use lib.Seq.{drop-cons}
 use Rattle.prelude.proofs.Absurd.{impossible}
 use Rattle.integers.specs.Bytes.{word}
-use Rattle.values.specs.Value.{Value, boolean, none, more, size, sizes, after}
+use Rattle.values.specs.Value.{Value, boolean, none, more, size, sizes}
 use Rattle.values.specs.Place.{At, ItemsAt}
 use Rattle.values.proofs.Encoding.{size_low}
 use Rattle.values.proofs.Records.{first-of, items_none, one_list, word_size}

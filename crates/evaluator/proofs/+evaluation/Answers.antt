@@ -1,79 +1,39 @@
 -- The cycle of the evaluator: each member is proved in a module of its own.
-use Prim.Native.Nat.{ℕ, ◌-◌}
+use Prim.Native.Nat.{ℕ, ◌-◌, ◌+◌}
 use native.Mathlib.Omega.{arith}
-use mathlib.Core.Path.{refl, sym, subst}
+use mathlib.Core.Path.{refl, sym, subst, ap, ◌∙◌}
 use Rattle.parts.proofs.Laws.{lent_on}
-use Rattle.evaluator.proofs.Firsts.{plain_first}
+use Rattle.evaluator.proofs.Firsts.{plain_first, binder_first, enumerated_first, after_binary, after_unary}
 use Rattle.evaluator.specs.Binding.{Binder}
-use Rattle.evaluator.proofs.Tables.{room_here, small_place}
+use Rattle.evaluator.proofs.Tables.{room_here, small_place, here}
 use Rattle.evaluator.proofs.Standing.{binder_has, binder_readable}
-use Rattle.evaluator.proofs.Members.{first_asked}
+use Rattle.evaluator.proofs.Members.{first_asked, next_asked, strict_kind, binary_left, binary_right, binary_off, binary_off_right, binary_held, binary_done, eval_last, unmatched, if_test, if_then, if_else, if_off, if_bad, if_yes, if_no, two_field, strictly, seven_or_eight, logic_left, logic_next, logic_off, logic_held, logic_done, logic_bad, logic_off_right, logic_both, logic_right_held, unary_has, unary_field, unary_off, unary_held, unary_done}
 use Rattle.evaluator.proofs.Beginning.{begin_off, begin_held, begin_unfit, begin_lent}
-use Rattle.evaluator.proofs.Placing.{begin_opened}
+use Rattle.evaluator.proofs.Placing.{begin_opened, test_judged}
 use Rattle.evaluator.proofs.Wording.{valued, unvalued, decoded}
-use Prim.Native.Nat.{ℕ, ◌+◌}
-use mathlib.Core.Path.{sym, ap, ◌∙◌}
 use Rattle.tables.specs.Shapes.{first_of}
 use Rattle.calling.proofs.Framing.{kept_same}
-use Rattle.evaluator.proofs.Members.{first_asked, next_asked, strict_kind, binary_left, binary_right, binary_off, binary_off_right, binary_held, binary_done}
-use Rattle.evaluator.proofs.Wording.{valued, unvalued}
-use Prim.Native.Nat.{ℕ}
-use mathlib.Core.Path.{sym, ◌∙◌}
 use mathlib.Core.Logic.{inl, inr, ⊎_elim}
-use Rattle.evaluator.proofs.Members.{eval_last, from_eighteen, unmatched}
-use Rattle.evaluator.proofs.Giving.{single_held}
-use Rattle.evaluator.proofs.Members.{first_asked, next_asked, if_test, if_then, if_else, if_off, if_bad, if_yes, if_no}
-use mathlib.Core.Path.{refl}
+use Rattle.evaluator.proofs.Giving.{single_held, gives_at}
 use Rattle.lists.specs.Lent.{lent}
 use Rattle.evaluator.proofs.Comprehending.{collect_off, collect_room, collect_start, collect_whole, kind_as, collects_extends, collects_off, collects_more, collects_copyable, collects_end}
 use Rattle.evaluator.specs.Contract.{env_of}
-use Prim.Native.Nat.{ℕ, ◌+◌}
-use mathlib.Core.Path.{refl, ◌∙◌}
-use mathlib.Core.Logic.{inr}
-use Rattle.evaluator.proofs.Tables.{here, room_here}
-use Rattle.evaluator.proofs.Enumerating.{building_start, building_has, building_ask, key_off, second_has, value_ask, value_off, pair_held, pair_next, building_finish, building_end, from_entry, empties_kept}
-use Rattle.evaluator.proofs.Tables.{here}
-use Rattle.evaluator.proofs.Members.{two_field, strictly, from_seven, left_over}
-use Rattle.evaluator.proofs.Tables.{room_here}
-use Rattle.evaluator.proofs.Standing.{binder_has}
-use Rattle.evaluator.proofs.Entering.{test_off, test_held}
-use Rattle.evaluator.proofs.Placing.{test_judged}
-use Rattle.evaluator.proofs.Giving.{gives_at}
-use Rattle.evaluator.proofs.Firsts.{binder_first}
-use Rattle.evaluator.proofs.Entering.{inside_asked, inside_done}
-use mathlib.Core.Path.{refl, ap}
-use Rattle.evaluator.proofs.Extending.{which_one, extends_has}
-use Rattle.evaluator.proofs.Adding.{item_off, item_held, item_done}
+use Rattle.evaluator.proofs.Enumerating.{building_start, building_has, building_ask, key_off, second_has, value_ask, value_off, pair_held, pair_next, building_finish, building_end, from_entry, empties_kept, building_off, building_held, building_more}
+use Rattle.evaluator.proofs.Entering.{test_off, test_held, inside_asked, inside_done}
+use Rattle.evaluator.proofs.Extending.{which_one, extends_has, pair_has, extends_as, extended_as}
+use Rattle.evaluator.proofs.Adding.{item_off, item_held, item_done, pair_off, pair_stands, pair_value_off, pair_held as pair_added, pair_done, step_off, step_false, step_extends, step_true}
 use Rattle.evaluator.specs.Word.{outcome_of}
-use Rattle.evaluator.proofs.Firsts.{enumerated_first}
-use mathlib.Core.Logic.{inl}
 use Rattle.evaluator.proofs.Simple.{built_small}
-use Rattle.evaluator.proofs.Enumerating.{building_start, building_has, building_ask, building_off, building_held, building_more, building_finish, building_end, from_entry, empties_kept}
-use Rattle.evaluator.proofs.Deciding.{not_taken, let_be_has}
-use Rattle.evaluator.proofs.Letting.{let_be_off, let_be_none, let_be_some, let_be_unchosen, let_be_stands, let_be_body_off, let_be_copyable, let_be_done}
-use Rattle.evaluator.proofs.Deciding.{not_taken, let_in_binder, let_in_readable, picks_as}
-use Rattle.evaluator.proofs.Letting.{let_in_off, let_in_none, let_in_some, let_in_unchosen, let_in_stands, let_in_body_off, let_in_copyable, let_in_done}
-use Rattle.evaluator.proofs.Firsts.{after_binary}
-use Rattle.evaluator.proofs.Members.{first_asked, next_asked, logic_left, logic_next, logic_off, logic_held, logic_done, logic_bad, logic_off_right, logic_both, logic_right_held}
-use Rattle.evaluator.proofs.Extending.{extends_has, pair_has}
-use Rattle.evaluator.proofs.Adding.{pair_off, pair_stands, pair_value_off, pair_held, pair_done}
-use mathlib.Core.Path.{refl, sym, ap, ◌∙◌}
-use mathlib.Core.Logic.{⊎_elim}
-use Rattle.evaluator.proofs.Deciding.{quantify_kind, begins_as, agrees_yes, agrees_no}
+use Rattle.evaluator.proofs.Deciding.{not_taken, let_be_has, let_in_binder, let_in_readable, picks_as, quantify_kind, begins_as, agrees_yes, agrees_no, surveys_as, seventeen, single_off}
+use Rattle.evaluator.proofs.Letting.{let_be_off, let_be_none, let_be_some, let_be_unchosen, let_be_stands, let_be_body_off, let_be_copyable, let_be_done, let_in_off, let_in_none, let_in_some, let_in_unchosen, let_in_stands, let_in_body_off, let_in_copyable, let_in_done}
 use Rattle.evaluator.proofs.Quantified.{Settled, settled_as, scans_end, scans_hit, scans_stands, scans_off, scans_more, quantify_off, quantify_start, quantify_whole, quantify_done}
-use mathlib.Core.Path.{◌∙◌}
-use Rattle.evaluator.proofs.Deciding.{surveys_as, seventeen, single_off}
 use Rattle.evaluator.proofs.Unique.{exists1_done, iota_not, iota_stands, iota_done}
-use mathlib.Core.Path.{refl, sym}
 use borrow.Author.Tests.{eq-eqb, ne_eqb}
-use Rattle.evaluator.proofs.Extending.{extends_as, extended_as}
-use Rattle.evaluator.proofs.Adding.{step_off, step_false, step_extends, step_true}
 use Rattle.evaluator.proofs.Coming.{comes_sound}
 use Rattle.evaluator.proofs.Quieting.{quiet}
 use Rattle.evaluator.proofs.Surveying.{counts_end, counts_stands, counts_off, counts_more, survey_off, survey_start, survey_whole}
-use Rattle.evaluator.proofs.Firsts.{after_unary}
-use Rattle.evaluator.proofs.Members.{first_asked, unary_has, unary_field, unary_off, unary_held, unary_done}
 use Rattle.evaluator.proofs.+evaluation.Goals as goal
+use Rattle.evaluator.proofs.+evaluation.Goals.{binder-in_default-via-then-k-lt16, binder-in_default-via-else-k-lt16+else-k-lt21, eval-in_default-via-then-k-lt1, eval-in_default-via-else-k-lt1+else-k-lt9, eval-in-10-1, eval-in_default+else-k-lt1+then-k-lt9, quantify-else-all-test, quantify-then-all-test+else-is_refusal-2+then-agree}
 
 pub begin-noted_operand-a-requires : goal.begin-noted_operand-a-requires
 begin-noted_operand-a-requires t c =
@@ -110,15 +70,19 @@ begin-overflow_add-base t c = omega (arith, room_here c.requires.0, c.requires.0
 
 pub begin-open-opened-requires : goal.begin-open-opened-requires
 begin-open-opened-requires t c =
-    rw (lent_on c.args.table.now) (binder_readable c.requires.0 (subst Binder (sym c.requires.1) c.requires.2) (rw (lent_on c.args.table.now) at c.operand_from-p.ensures.0), begin_lent c.requires.0 c.args.k (rw (lent_on c.args.table.now) at c.noted_operand-a.ensures.0) (rw (lent_on c.args.table.now) at c.eval-o.ensures) (valued c.eval-o.result c.is_refusal.ensures c.if-is_refusal.false) c.suits.ensures c.if-not-suits.false)
+    rw (lent_on c.args.table.now)
+    (record {
+      readable = binder_readable c.requires.0 (subst Binder (sym c.requires.1) c.requires.2) (rw (lent_on c.args.table.now) at c.operand_from-p.ensures.0);
+      lent = begin_lent c.requires.0 c.args.k (rw (lent_on c.args.table.now) at c.noted_operand-a.ensures.0) (rw (lent_on c.args.table.now) at c.eval-o.ensures) (valued c.eval-o.result c.is_refusal.ensures c.if-is_refusal.false) c.suits.ensures c.if-not-suits.false;
+    })
 
 pub begin-shape_of-s : goal.begin-shape_of-s
 begin-shape_of-s t c =
-    (begin_opened c.requires.0 c.args.k (rw (lent_on c.args.table.now) at c.noted_operand-a.ensures.0) (rw (lent_on c.args.table.now) at c.eval-o.ensures) (valued c.eval-o.result c.is_refusal.ensures c.if-is_refusal.false) c.suits.ensures c.if-not-suits.false (rw (lent_on c.args.table.now) at c.operand_from-p.ensures.0) (rw (lent_on c.args.table.now) at c.«open».ensures) c.opening.ensures).kept.long
+    (begin_opened c.requires.0 c.args.k (rw (lent_on c.args.table.now) at c.noted_operand-a.ensures.0) (rw (lent_on c.args.table.now) at c.eval-o.ensures) (valued c.eval-o.result c.is_refusal.ensures c.if-is_refusal.false) c.suits.ensures c.if-not-suits.false (rw (lent_on c.args.table.now) at c.operand_from-p.ensures.0) (rw (lent_on c.args.table.now) at c.open-opened.ensures) c.opening.ensures).kept.long
 
 pub begin-returns : goal.begin-returns
 begin-returns t c =
-    begin_opened c.requires.0 c.args.k (rw (lent_on c.args.table.now) at c.noted_operand-a.ensures.0) (rw (lent_on c.args.table.now) at c.eval-o.ensures) (valued c.eval-o.result c.is_refusal.ensures c.if-is_refusal.false) c.suits.ensures c.if-not-suits.false (rw (lent_on c.args.table.now) at c.operand_from-p.ensures.0) (rw (lent_on c.args.table.now) at c.«open».ensures) c.opening.ensures
+    begin_opened c.requires.0 c.args.k (rw (lent_on c.args.table.now) at c.noted_operand-a.ensures.0) (rw (lent_on c.args.table.now) at c.eval-o.ensures) (valued c.eval-o.result c.is_refusal.ensures c.if-is_refusal.false) c.suits.ensures c.if-not-suits.false (rw (lent_on c.args.table.now) at c.operand_from-p.ensures.0) (rw (lent_on c.args.table.now) at c.open-opened.ensures) c.opening.ensures
 
 pub plain::binary-first_of_two-first-requires : goal.plain::binary-first_of_two-first-requires
 plain::binary-first_of_two-first-requires t c = strict_kind c.args.table.now c.args.r c.requires.2
@@ -178,7 +142,7 @@ binder-single-requires-in-17 t c =
 
 pub binder-collect-requires : goal.binder-collect-requires
 binder-collect-requires t c =
-    (omega (arith, c.decreases), (c.requires.0, c.requires.1, from_eighteen c.in_default-1-own.rest c.if-k-lt16.false c.if-k-lt21.true))
+    (omega (arith, c.decreases), (c.requires.0, c.requires.1, (omega arith, omega arith)))
 
 pub binder-returns-in-12 : goal.binder-returns-in-12
 binder-returns-in-12 t c = c.let_in.ensures
@@ -197,7 +161,8 @@ binder-returns-in-18 t c = c.collect.ensures
 
 pub binder-returns-in_default : goal.binder-returns-in_default
 binder-returns-in_default t c =
-    eval_last c.requires.0 (sym c.requires.1) (unmatched c.requires.2 (c.is_quantifier.ensures.no c.if-is_quantifier.false) c.in_default-1-own.rest (⊎_elim (λ x. inl x.taken) (λ x. inr x.1.left) c.in_default.branch)) c.refusal.ensures
+    eval_last c.requires.0 (sym c.requires.1) (unmatched c.requires.2 (c.is_quantifier.ensures.no c.if-is_quantifier.false) ((((tt, omega arith), omega arith), omega arith), omega arith)
+    (elim c.in_default.branch [ binder-in_default-via-then-k-lt16 w ↦ inl (omega arith) | binder-in_default-via-else-k-lt16+else-k-lt21 w ↦ inr (omega arith) ])) c.refusal.ensures
 
 pub plain::branch-operand_from-a-requires : goal.plain::branch-operand_from-a-requires
 plain::branch-operand_from-a-requires t c = (if_test c.requires.0 c.requires.1, plain_first c.requires.1 (omega arith) (omega arith))
@@ -392,12 +357,30 @@ pub eval-quote-requires : goal.eval-quote-requires
 eval-quote-requires t c = (c.requires, sym c.kind-k.ensures.0 ∙ c.in-22.is)
 
 pub eval-binder-requires : goal.eval-binder-requires
-eval-binder-requires t c =
-    (omega (arith, c.decreases), (c.requires, sym c.kind-k.ensures.0, left_over c.in_default-1-own.rest (⊎_elim (λ x. inl x.taken) (λ x. inr x.1.left) c.in_default.branch)))
+eval-binder-requires t c = (
+  omega (arith, c.decreases),
+  (
+    c.requires,
+    sym c.kind-k.ensures.0,
+    elim c.in_default.branch [
+      | eval-in_default-via-then-k-lt1 w ↦ inl (omega arith)
+      | eval-in_default-via-else-k-lt1+else-k-lt9 w ↦ inr (grind arith, grind arith, grind arith)
+    ],
+  ),
+)
 
 pub eval-items-requires : goal.eval-items-requires
-eval-items-requires t c =
-    (omega (arith, c.decreases), (c.requires, sym c.kind-k.ensures.0, ⊎_elim (λ x. inr (inr x.keys7)) (λ x. from_seven x.0.rest x.1.left x.2.taken) c.in-7-1.branch))
+eval-items-requires t c = (
+  omega (arith, c.decreases),
+  (
+    c.requires,
+    sym c.kind-k.ensures.0,
+    elim c.in-7-1.branch [
+      | eval-in-10-1 w ↦ inr (inr (omega arith))
+      | eval-in_default+else-k-lt1+then-k-lt9 w ↦ seven_or_eight (grind arith) (omega arith)
+    ],
+  ),
+)
 
 pub eval-returns-in-1 : goal.eval-returns-in-1
 eval-returns-in-1 t c = c.truth.ensures
@@ -572,7 +555,7 @@ let_be-shape_of-s-in_default t c = c.survey-v.ensures.kept.long
 
 pub let_be-returns-in_default : goal.let_be-returns-in_default
 let_be-returns-in_default t c =
-    let_be_unchosen c.requires.0 c.requires.1 c.survey-v.ensures (valued c.survey-v.result.word c.is_refusal.ensures c.if-is_refusal.false) c.if-n-eq0.false c.choose-a.ensures (not_taken c.choose-a.result c.in_default-own.keys2) c.unchosen.ensures
+    let_be_unchosen c.requires.0 c.requires.1 c.survey-v.ensures (valued c.survey-v.result.word c.is_refusal.ensures c.if-is_refusal.false) c.if-n-eq0.false c.choose-a.ensures (not_taken c.choose-a.result c.in_default.not-Taken) c.unchosen.ensures
 
 pub let_be-inside-q-requires : goal.let_be-inside-q-requires
 let_be-inside-q-requires t c =
@@ -634,7 +617,7 @@ let_in-shape_of-s-in_default t c = c.begin-o.ensures.kept.long
 
 pub let_in-returns-in_default : goal.let_in-returns-in_default
 let_in-returns-in_default t c =
-    let_in_unchosen c.requires.0 c.requires.1 c.begin-o.ensures (valued c.begin-o.result c.is_refusal.ensures c.if-is_refusal.false) c.if-n-eq0.false (picks_as c.requires.0 c.requires.1 c.operand_from-p.ensures.0 c.is_loose_pattern-loose.ensures c.decide-a.ensures) (not_taken c.decide-a.result c.in_default-own.keys2) c.unchosen.ensures
+    let_in_unchosen c.requires.0 c.requires.1 c.begin-o.ensures (valued c.begin-o.result c.is_refusal.ensures c.if-is_refusal.false) c.if-n-eq0.false (picks_as c.requires.0 c.requires.1 c.operand_from-p.ensures.0 c.is_loose_pattern-loose.ensures c.decide-a.ensures) (not_taken c.decide-a.result c.in_default.not-Taken) c.unchosen.ensures
 
 pub let_in-inside-q-requires : goal.let_in-inside-q-requires
 let_in-inside-q-requires t c =
@@ -734,7 +717,7 @@ built::pair-overflow_add-base t c = omega (arith, room_here c.requires.stands.as
 
 pub built::pair-enter_next-bad-requires : goal.built::pair-enter_next-bad-requires
 built::pair-enter_next-bad-requires t c =
-    pair_held c.requires refl refl c.inside-o.ensures (valued c.inside-o.result c.is_refusal.ensures c.if-is_refusal.false) refl c.inside-q.ensures (valued c.inside-q.result c.is_refusal-2.ensures c.if-is_refusal-2.false) (pair_has c.requires refl).has
+    pair_added c.requires refl refl c.inside-o.ensures (valued c.inside-o.result c.is_refusal.ensures c.if-is_refusal.false) refl c.inside-q.ensures (valued c.inside-q.result c.is_refusal-2.ensures c.if-is_refusal-2.false) (pair_has c.requires refl).has
 
 pub built::pair-shape_of-s : goal.built::pair-shape_of-s
 built::pair-shape_of-s t c =
@@ -776,19 +759,29 @@ pub quantify-all-preserved : goal.quantify-all-preserved
 quantify-all-preserved t c =
     scans_more c.all.invariant c.all-test.true c.holds-h.ensures (valued c.holds-h.result c.is_refusal-in-all.ensures c.if-is_refusal-2.false) (agrees_no _ _ (sym c.agree.ensures ∙ c.if-agree.false)) refl refl
 
--- Both ways out of the loop.
-quantify_joined : (t : ℕ) (c : goal.After-put-boolean-arg) → Settled c.args.table.now c.args.r c.begin.new.s c.args.base (env_of c.args.env.now) c.args.want (lent c.begin.new.run) c.all_test.s (lent c.all_test.run) c.all_test.found
-quantify_joined t c = ⊎_elim (λ x. settled_as x.1 (ap lent x.2) x.3 (scans_end c.all.invariant x.0.left)) (λ x. settled_as x.11 (ap lent x.12) x.13 (scans_hit c.all.invariant x.0.taken x.4.ensures (valued x.4.result x.7.ensures x.8.left) (agrees_yes _ _ (sym x.9.ensures ∙ x.10.taken)))) c.all_test.branch
-
 pub quantify-put_boolean-requires : goal.quantify-put_boolean-requires
-quantify-put_boolean-requires t c = omega (arith, room_here c.requires.0, (quantify_joined t c).kept.long, c.begin-o.ensures.kept.long)
+quantify-put_boolean-requires t c =
+    let joined : Settled c.args.table.now c.args.r c.begin-o.new.s c.args.base (env_of c.args.env.now) c.args.want (lent c.begin-o.new.run) c.all-test.s (lent c.all-test.run) c.all-test.found = elim c.all-test.branch [
+      | quantify-else-all-test w ↦ settled_as w.s-is (ap lent w.run-is) w.found-is (scans_end c.all.invariant w.all-test.false)
+      | quantify-then-all-test+else-is_refusal-2+then-agree w ↦ settled_as w.s-is (ap lent w.run-is) w.found-is (scans_hit c.all.invariant w.all-test.true w.holds-h.ensures (valued w.holds-h.result w.is_refusal-in-all.ensures w.if-is_refusal-2.false) (agrees_yes _ _ (sym w.agree.ensures ∙ w.if-agree.true)))
+    ] in
+    omega (arith, room_here c.requires.0, joined.kept.long, c.begin-o.ensures.kept.long)
 
 pub quantify-shape_of-s : goal.quantify-shape_of-s
-quantify-shape_of-s t c = c.put_boolean.ensures.outside.long ∙ (quantify_joined t c).kept.long ∙ c.begin-o.ensures.kept.long
+quantify-shape_of-s t c =
+    let joined : Settled c.args.table.now c.args.r c.begin-o.new.s c.args.base (env_of c.args.env.now) c.args.want (lent c.begin-o.new.run) c.all-test.s (lent c.all-test.run) c.all-test.found = elim c.all-test.branch [
+      | quantify-else-all-test w ↦ settled_as w.s-is (ap lent w.run-is) w.found-is (scans_end c.all.invariant w.all-test.false)
+      | quantify-then-all-test+else-is_refusal-2+then-agree w ↦ settled_as w.s-is (ap lent w.run-is) w.found-is (scans_hit c.all.invariant w.all-test.true w.holds-h.ensures (valued w.holds-h.result w.is_refusal-in-all.ensures w.if-is_refusal-2.false) (agrees_yes _ _ (sym w.agree.ensures ∙ w.if-agree.true)))
+    ] in
+    c.put_boolean.ensures.outside.long ∙ joined.kept.long ∙ c.begin-o.ensures.kept.long
 
 pub quantify-returns : goal.quantify-returns
 quantify-returns t c =
-    quantify_done c.requires.0 c.args.want (c.requires.1 ∙ c.requires.2) (begins_as c.requires.2 c.begin-o.ensures) (valued c.begin-o.result c.is_refusal.ensures c.if-is_refusal.false) (quantify_joined t c) c.put_boolean.ensures
+    let joined : Settled c.args.table.now c.args.r c.begin-o.new.s c.args.base (env_of c.args.env.now) c.args.want (lent c.begin-o.new.run) c.all-test.s (lent c.all-test.run) c.all-test.found = elim c.all-test.branch [
+      | quantify-else-all-test w ↦ settled_as w.s-is (ap lent w.run-is) w.found-is (scans_end c.all.invariant w.all-test.false)
+      | quantify-then-all-test+else-is_refusal-2+then-agree w ↦ settled_as w.s-is (ap lent w.run-is) w.found-is (scans_hit c.all.invariant w.all-test.true w.holds-h.ensures (valued w.holds-h.result w.is_refusal-in-all.ensures w.if-is_refusal-2.false) (agrees_yes _ _ (sym w.agree.ensures ∙ w.if-agree.true)))
+    ] in
+    quantify_done c.requires.0 c.args.want (c.requires.1 ∙ c.requires.2) (begins_as c.requires.2 c.begin-o.ensures) (valued c.begin-o.result c.is_refusal.ensures c.if-is_refusal.false) joined c.put_boolean.ensures
 
 pub single-survey-v-requires : goal.single-survey-v-requires
 single-survey-v-requires t c =

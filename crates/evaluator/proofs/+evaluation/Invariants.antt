@@ -21,17 +21,17 @@ decreases-built::collect-loop-j l = l.n - l.j
 abbrev pub decreases-begin : goal.decreases-begin
 decreases-begin l = 8 * l.r
 
-abbrev pub decreases-plain-binary : goal.decreases-plain-binary
-decreases-plain-binary l = 8 * l.r + 3
+abbrev pub decreases-plain::binary : goal.decreases-plain::binary
+decreases-plain::binary l = 8 * l.r + 3
 
 abbrev pub decreases-binder : goal.decreases-binder
 decreases-binder l = 8 * l.r + 4
 
-abbrev pub decreases-built-collect : goal.decreases-built-collect
-decreases-built-collect l = 8 * l.r + 3
+abbrev pub decreases-built::collect : goal.decreases-built::collect
+decreases-built::collect l = 8 * l.r + 3
 
-abbrev pub decreases-plain-branch : goal.decreases-plain-branch
-decreases-plain-branch l = 8 * l.r + 3
+abbrev pub decreases-plain::branch : goal.decreases-plain::branch
+decreases-plain::branch l = 8 * l.r + 3
 
 abbrev pub decreases-eval : goal.decreases-eval
 decreases-eval l = 8 * l.r + 5
@@ -42,32 +42,32 @@ decreases-holds l = 8 * l.r + 1
 abbrev pub decreases-inside : goal.decreases-inside
 decreases-inside l = 8 * l.r
 
-abbrev pub decreases-built-item : goal.decreases-built-item
-decreases-built-item l = 8 * l.r + 1
+abbrev pub decreases-built::item : goal.decreases-built::item
+decreases-built::item l = 8 * l.r + 1
 
 abbrev pub decreases-let_in : goal.decreases-let_in
 decreases-let_in l = 8 * l.r + 3
 
-abbrev pub decreases-plain-logic : goal.decreases-plain-logic
-decreases-plain-logic l = 8 * l.r + 3
+abbrev pub decreases-plain::logic : goal.decreases-plain::logic
+decreases-plain::logic l = 8 * l.r + 3
 
-abbrev pub decreases-plain-items : goal.decreases-plain-items
-decreases-plain-items l = 8 * l.r + 3
+abbrev pub decreases-plain::items : goal.decreases-plain::items
+decreases-plain::items l = 8 * l.r + 3
 
-abbrev pub decreases-plain-entries : goal.decreases-plain-entries
-decreases-plain-entries l = 8 * l.r + 3
+abbrev pub decreases-plain::entries : goal.decreases-plain::entries
+decreases-plain::entries l = 8 * l.r + 3
 
 abbrev pub decreases-single : goal.decreases-single
 decreases-single l = 8 * l.r + 3
 
-abbrev pub decreases-built-pair : goal.decreases-built-pair
-decreases-built-pair l = 8 * l.r + 1
+abbrev pub decreases-built::pair : goal.decreases-built::pair
+decreases-built::pair l = 8 * l.r + 1
 
 abbrev pub decreases-quantify : goal.decreases-quantify
 decreases-quantify l = 8 * l.r + 3
 
-abbrev pub decreases-built-step : goal.decreases-built-step
-decreases-built-step l = 8 * l.r + 2
+abbrev pub decreases-built::step : goal.decreases-built::step
+decreases-built::step l = 8 * l.r + 2
 
 abbrev pub decreases-let_be : goal.decreases-let_be
 decreases-let_be l = 8 * l.r + 3
@@ -75,8 +75,8 @@ decreases-let_be l = 8 * l.r + 3
 abbrev pub decreases-survey : goal.decreases-survey
 decreases-survey l = 8 * l.r + 2
 
-abbrev pub decreases-plain-unary : goal.decreases-plain-unary
-decreases-plain-unary l = 8 * l.r + 3
+abbrev pub decreases-plain::unary : goal.decreases-plain::unary
+decreases-plain::unary l = 8 * l.r + 3
 
 abbrev pub invariant-plain::entries-loop-i : goal.invariant-plain::entries-loop-i
 invariant-plain::entries-loop-i l = Building l.table l.index l.r l.initial.s l.base (env_of l.env) 9 l.n (lent l.initial.run) l.s (lent l.run) l.bad l.i

@@ -1,5 +1,4 @@
 use mathlib.Core.Path.{sym, ap, ◌∙◌}
-use mathlib.Core.Logic.{⊎_elim}
 use Prim.Native.Nat.{ℕ}
 use native.Mathlib.Omega.{arith}
 use Rattle.forming.proofs.Stacking.{depth_few, met_as, unmatched, no_ways, ways_few, first_asked, frame_fits, frame_opened}

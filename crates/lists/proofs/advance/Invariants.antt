@@ -1,4 +1,3 @@
-use Prim.Native.Nat.{◌-◌}
 use Rattle.lists.proofs.Moving.{Looking}
 use Rattle.lists.proofs.advance.Given as goal
 

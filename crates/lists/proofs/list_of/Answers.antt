@@ -1,5 +1,4 @@
 -- Entries are read one by one.
-use Prim.Native.Nat.{◌-◌}
 use native.Mathlib.Omega.{arith}
 use Rattle.lists.proofs.Starting.{read_none, read_more, read_all, sound_long}
 use Rattle.lists.proofs.list_of.Goals as goal

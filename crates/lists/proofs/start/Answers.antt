@@ -1,5 +1,4 @@
 -- Entries go in one by one, then the numbers.
-use Prim.Native.Nat.{◌-◌}
 use native.Mathlib.Omega.{arith}
 use mathlib.Core.Path.{refl}
 use mir.Val.{bool_byte}

@@ -1,6 +1,4 @@
 -- `has_item`: the value is among all items exactly where it is among those that are left.
-use mathlib.Core.Logic.{⊎_elim}
-use Prim.Native.Nat.{◌-◌}
 use native.Mathlib.Omega.{arith}
 use Rattle.parts.proofs.Running.{more_held, run_less}
 use Rattle.parts.proofs.Parting.{unfound_start, unfound_held, unfound_end, first_held, unfound_found, unfound_more}

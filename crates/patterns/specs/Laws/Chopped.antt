@@ -2,7 +2,7 @@
 -- or map, the halves among the proper splits are exactly the pairs of sets or maps that together are the whole, have no member or entry in common and
 -- are both not empty.
 use Rattle.std.specs.Prelude.{◌≡◌, refl, true, ◌⊎◌, ◌↔◌, List, [], ◌∷◌}
-use Rattle.std.proofs.Common.{sym, ap, subst, ◌∙◌, inl, inr, ⊎_elim}
+use Rattle.std.proofs.Common.{sym, ap, subst, inl, inr, ⊎_elim}
 use Rattle.prelude.specs.Membership.{In}
 use Rattle.values.specs.Value.{Kind, Value, Shaped}
 use Rattle.values.proofs.Order.{irreflexive, asymmetric}

@@ -1,5 +1,5 @@
 -- A union or munion pattern is met by a set or map of over seven exactly where `wide` says so, and 29 is given exactly then.
-use Rattle.std.specs.Prelude.{◌≡◌, refl, Bool, true, false, ◌||◌, cond, ◌⊎◌, ◌↔◌, List, [], ◌∷◌, ℕ, leb, ltb, length}
+use Rattle.std.specs.Prelude.{◌≡◌, refl, Bool, true, false, ◌||◌, cond, ◌↔◌, List, [], ◌∷◌, ℕ, leb, ltb, length}
 use Rattle.std.proofs.Common.{sym, ap, ◌∙◌, inl, inr, ⊎_elim, arith, ltb-true, lt-ltb}
 use Rattle.std.proofs.Math.Option.{Option, none as absent, some}
 use mathlib.Mathlib.Data.Bool.Basic.{or_inl, or_inr, and_intro, and_elim_left, and_elim_right}

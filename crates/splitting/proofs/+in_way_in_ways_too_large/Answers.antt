@@ -1,7 +1,5 @@
-use Prim.Native.Nat.{◌-◌}
 use native.Mathlib.Omega.{arith}
 use mathlib.Core.Path.{ap, ◌∙◌}
-use mathlib.Core.Logic.{⊎_elim}
 use Rattle.tables.specs.Record.{is_composed}
 use Rattle.tables.specs.Laws.Kinds.{composed_told}
 use Rattle.matching.proofs.Records.{count_fits, has_operand, operand_readable, recast_meets}
@@ -46,7 +44,7 @@ in_way-loop-i-smaller t c = omega arith
 pub in_way-loop-i-preserved : goal.in_way-loop-i-preserved
 in_way-loop-i-preserved t c =
     elim c.if-split.branch [
-      in_way-then-split+else-wide w ↦ parts_next _ _ _ c.requires.0 _ _ _ c.requires.1 _ c.loop-i.invariant (omega (arith, c.operand_count-n.ensures.0)) _ _ c.kind-k.ensures.0 c.operand_count-n.ensures.0 _ w.piece-a.ensures _ c.operand-q.ensures.0 _ w.too_large-wide.ensures w.if-wide.false
+      | in_way-then-split+else-wide w ↦ parts_next _ _ _ c.requires.0 _ _ _ c.requires.1 _ c.loop-i.invariant (omega (arith, c.operand_count-n.ensures.0)) _ _ c.kind-k.ensures.0 c.operand_count-n.ensures.0 _ w.piece-a.ensures _ c.operand-q.ensures.0 _ w.too_large-wide.ensures w.if-wide.false
       | in_way-else-split w ↦ parts_past _ _ _ c.requires.0 _ _ _ c.requires.1 _ c.loop-i.invariant (omega (arith, c.operand_count-n.ensures.0)) _ c.operand-q.ensures.0 _ c.has_split-split.ensures w.if-split.false
     ]
 

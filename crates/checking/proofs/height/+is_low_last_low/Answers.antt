@@ -1,9 +1,8 @@
 -- Whether a record is low, by recursion on the record number: an operand is lower.
 use mathlib.Core.Path.{sym, ap, ◌∙◌}
-use mathlib.Core.Logic.{⊎_elim}
-use Prim.Native.Nat.{ℕ, ◌-◌, ◌<◌, ◌≤◌}
+use Prim.Native.Nat.{◌-◌, ◌<◌, ◌≤◌}
 use native.Mathlib.Omega.{arith}
-use borrow.Author.Tests.{leb-true, not-false}
+use borrow.Author.Tests.{leb-true}
 use Rattle.prelude.proofs.Truth.{positive}
 use Rattle.tables.specs.Shapes.{first_of}
 use Rattle.tables.specs.Record.{is_leaf}
@@ -103,7 +102,7 @@ last_low-loop-i-smaller t c = omega (arith, c.loop-i-test.true)
 pub last_low-loop-i-preserved : goal.last_low-loop-i-preserved
 last_low-loop-i-preserved t c =
     let is_so_low : height (records c.args.table.now) c.loop-i.n ≤ c.args.most = elim c.if-not-flat.branch [
-      last_low-then-not-flat+else-not-low w ↦ leb-true (height (records c.args.table.now) c.loop-i.n) c.args.most (sym w.is_low-low.ensures ∙ w.if-not-low.false)
+      | last_low-then-not-flat+else-not-low w ↦ leb-true (height (records c.args.table.now) c.loop-i.n) c.args.most (sym w.is_low-low.ensures ∙ w.if-not-low.false)
       | last_low-else-not-flat w ↦ c.is_flat-flat.ensures w.if-not-flat.false
     ] in
     record { within = omega (arith, c.loop-i-test.true); is = c.operand_from-n-in-loop-i.ensures.0; byte = c.operand_from-n-in-loop-i.ensures.1; low = low_more (records c.args.table.now) c.requires.low.clear c.args.r c.requires.low.here.within c.args.most c.loop-i.i c.loop-i.n c.loop-i.invariant.is c.loop-i.invariant.low is_so_low }

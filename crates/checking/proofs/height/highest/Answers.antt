@@ -1,5 +1,4 @@
 -- The greatest so far, and the heights of the operands that are left.
-use Prim.Native.Nat.{◌-◌}
 use native.Mathlib.Omega.{arith}
 use Rattle.tables.specs.Accepted.{records}
 use Rattle.tables.specs.Laws.Accepted.{operand_lower}

@@ -1,6 +1,5 @@
 -- All records before n are leaves.
 use mathlib.Core.Path.{sym, ap, ◌∙◌}
-use Prim.Native.Nat.{◌-◌}
 use native.Mathlib.Omega.{arith}
 use Rattle.tables.specs.Record.{is_leaf}
 use Rattle.tables.specs.Accepted.{records}

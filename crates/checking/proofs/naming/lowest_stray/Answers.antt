@@ -2,7 +2,6 @@
 use Rattle.checking.proofs.Scan.{low_within, low_more, low_end}
 use Rattle.tables.specs.Check.{is_stray}
 use Rattle.tables.specs.Accepted.{records}
-use Prim.Native.Nat.{◌-◌}
 use native.Mathlib.Omega.{arith}
 use mathlib.Core.Path.{refl}
 use Rattle.checking.proofs.naming.lowest_stray.Goals as goal

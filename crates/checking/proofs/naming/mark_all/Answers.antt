@@ -1,7 +1,6 @@
 -- After r records, the numbers that they name are marked.
 use Rattle.checking.proofs.Marks.{records_start, records_more, records_end}
 use Rattle.tables.specs.Accepted.{records}
-use Prim.Native.Nat.{◌-◌}
 use native.Mathlib.Omega.{arith}
 use Rattle.checking.proofs.naming.mark_all.Goals as goal
 

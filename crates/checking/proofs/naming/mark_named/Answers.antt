@@ -1,5 +1,4 @@
 -- After i operands, the numbers named before operand i are marked.
-use Prim.Native.Nat.{◌-◌}
 use native.Mathlib.Omega.{arith}
 use Rattle.tables.specs.Check.{named_before}
 use Rattle.tables.specs.Accepted.{records}

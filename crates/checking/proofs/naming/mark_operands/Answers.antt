@@ -2,7 +2,6 @@
 use Rattle.checking.proofs.Marks.{operands_start, operands_more, operands_end}
 use Rattle.tables.specs.Check.{named_before}
 use Rattle.tables.specs.Accepted.{records}
-use Prim.Native.Nat.{◌-◌}
 use native.Mathlib.Omega.{arith}
 use Rattle.checking.proofs.naming.mark_operands.Goals as goal
 

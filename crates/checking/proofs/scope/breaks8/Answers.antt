@@ -2,7 +2,7 @@
 use Rattle.checking.proofs.Faults.{let_be8, let8, other8, plain8, let_operand}
 use Rattle.tables.specs.Sheet.{pattern_of}
 use Rattle.checking.proofs.Bits.{around_condition, held_loose}
-use Rattle.checking.specs.Scopes.{has_bit, around}
+use Rattle.checking.specs.Scopes.{has_bit}
 use Rattle.tables.specs.Accepted.{records}
 use Rattle.tables.specs.Laws.Accepted.{fit_records}
 use Rattle.tables.specs.Table.{record_at}

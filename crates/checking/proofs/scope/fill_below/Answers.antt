@@ -3,7 +3,6 @@ use Rattle.checking.proofs.Below.{filled_start, filled_more}
 use Rattle.checking.specs.Scopes.{bits_below}
 use Rattle.tables.specs.Accepted.{records}
 use lib.ListN.{length}
-use Prim.Native.Nat.{◌-◌}
 use native.Mathlib.Omega.{arith}
 use mathlib.Core.Path.{◌≡◌, sym}
 use Rattle.checking.proofs.scope.fill_below.Goals as goal

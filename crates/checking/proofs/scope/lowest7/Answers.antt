@@ -2,7 +2,6 @@
 use Rattle.checking.proofs.Scan.{low_within, low_more, low_end}
 use Rattle.tables.specs.Check.{fault7}
 use Rattle.tables.specs.Accepted.{records}
-use Prim.Native.Nat.{◌-◌}
 use native.Mathlib.Omega.{arith}
 use mathlib.Core.Path.{refl}
 use Rattle.checking.proofs.scope.lowest7.Goals as goal

@@ -1,6 +1,5 @@
 -- The pattern, the set or value and the third operand, and then the bodies, one after the other.
 use mathlib.Core.Path.{ap, ◌∙◌}
-use Prim.Native.Nat.{◌-◌}
 use native.Mathlib.Omega.{arith}
 use Rattle.tables.specs.Accepted.{records}
 use Rattle.checking.specs.Sweeps.{choice_of, alone_of, Names}

@@ -1,6 +1,5 @@
 -- After i operands, what they come to; those are not left any more.
 use mathlib.Core.Path.{ap, ◌∙◌}
-use Prim.Native.Nat.{◌-◌}
 use native.Mathlib.Omega.{arith}
 use Rattle.tables.specs.Accepted.{records}
 use Rattle.tables.specs.Shapes.{first_of}

@@ -1,6 +1,5 @@
 -- What is passed is at most what it comes to.
 use mathlib.Core.Path.{refl}
-use Prim.Native.Nat.{◌-◌}
 use native.Mathlib.Omega.{arith}
 use Rattle.checking.proofs.Adding.{or_more, or-none}
 use Rattle.checking.proofs.sweep.left_below.Goals as goal

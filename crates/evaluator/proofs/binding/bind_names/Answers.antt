@@ -14,7 +14,10 @@ operand_from-p-requires c =
 
 pub reach-near-requires : goal.reach-near-requires
 reach-near-requires c =
-    (binder_readable c.requires.stands.asked c.requires.stands.binder c.operand_from-p.ensures.0, inside_reachable c.requires.stands {up = 1536} (omega arith, omega arith) c.operand_from-p.ensures.0)
+    record {
+      readable = binder_readable c.requires.stands.asked c.requires.stands.binder c.operand_from-p.ensures.0;
+      reachable = inside_reachable c.requires.stands {up = 1536} (omega arith, omega arith) c.operand_from-p.ensures.0;
+    }
 
 pub under-requires : goal.under-requires
 under-requires c =

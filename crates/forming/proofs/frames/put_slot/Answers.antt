@@ -1,5 +1,4 @@
 use mathlib.Core.Path.{refl}
-use Prim.Native.Nat.{◌-◌}
 use Rattle.forming.proofs.Framing.{written_start, written_more, written_end}
 use native.Mathlib.Omega.{arith}
 use Rattle.forming.proofs.frames.put_slot.Goals as goal

@@ -1,5 +1,4 @@
 use mathlib.Core.Path.{refl}
-use Prim.Native.Nat.{◌-◌}
 use Rattle.forming.proofs.Framing.{read_start, read_more, read_end}
 use native.Mathlib.Omega.{arith}
 use Rattle.forming.proofs.frames.slot.Goals as goal

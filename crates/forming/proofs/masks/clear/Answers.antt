@@ -1,5 +1,3 @@
-use mathlib.Core.Logic.{⊎_elim}
-use Prim.Native.Nat.{◌-◌}
 use Rattle.forming.proofs.Framing.{clear_start, clear_none, clear_some, clear_end}
 use native.Mathlib.Omega.{arith}
 use Rattle.forming.proofs.masks.clear.Goals as goal
@@ -23,7 +21,7 @@ loop-x-smaller c = omega arith
 pub loop-x-preserved : goal.loop-x-preserved
 loop-x-preserved c =
     elim c.if-left-eq0.branch [
-      then-left-eq0 w ↦ rw w.found-is (clear_none _ _ _ _ _ (omega arith) c.loop-x.invariant w.if-left-eq0.true c.requires)
+      | then-left-eq0 w ↦ rw w.found-is (clear_none _ _ _ _ _ (omega arith) c.loop-x.invariant w.if-left-eq0.true c.requires)
       | else-left-eq0 w ↦ rw w.found-is (clear_some _ _ _ _ _ (omega arith) c.loop-x.invariant w.if-left-eq0.false)
     ]
 

@@ -1,4 +1,3 @@
-use Prim.Native.Nat.{◌-◌}
 use native.Mathlib.Omega.{arith}
 use Rattle.matching.proofs.Records.{has_operand, operand_readable}
 use Rattle.forming.proofs.Needing.{named_part, names_lack, nothing_told, had_told}

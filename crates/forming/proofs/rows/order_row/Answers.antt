@@ -1,7 +1,6 @@
 use Rattle.forming.proofs.Rowing.{row_start, row_words, row_lower, row_higher, row_more, row_end}
 use Rattle.parts.proofs.Masking.{words_same}
 use native.Mathlib.Omega.{arith}
-use Prim.Native.Nat.{◌-◌}
 use mathlib.Core.Path.{refl}
 use Rattle.forming.proofs.rows.order_row.Goals as goal
 

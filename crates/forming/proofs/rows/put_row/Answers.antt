@@ -1,6 +1,5 @@
 use Rattle.forming.proofs.Rowing.{so_far_start, so_far_more, so_far_end}
 use native.Mathlib.Omega.{arith}
-use Prim.Native.Nat.{◌-◌}
 use Rattle.forming.proofs.rows.put_row.Goals as goal
 
 pub loop-x-init : goal.loop-x-init

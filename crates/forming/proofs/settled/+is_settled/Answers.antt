@@ -1,5 +1,4 @@
 use mathlib.Core.Path.{sym, ◌∙◌}
-use Prim.Native.Nat.{◌-◌}
 use native.Mathlib.Omega.{arith}
 use Rattle.tables.specs.Laws.Kinds.{composed_told}
 use Rattle.matching.proofs.Records.{name_field, has_operand, operand_readable}

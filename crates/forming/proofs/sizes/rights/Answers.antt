@@ -1,6 +1,6 @@
 use native.Mathlib.Omega.{arith}
 use mathlib.Core.Path.{refl}
-use mathlib.Core.Logic.{⊎_elim, inl, inr}
+use mathlib.Core.Logic.{inl, inr}
 use Rattle.forming.proofs.Sizing.{no_rights, rights_are}
 use Rattle.forming.proofs.sizes.rights.Goals as goal
 use Rattle.forming.proofs.sizes.rights.Goals.{then-z, else-z}

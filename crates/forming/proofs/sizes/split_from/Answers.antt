@@ -1,5 +1,4 @@
 use native.Mathlib.Omega.{arith}
-use Prim.Native.Nat.{◌-◌}
 use lib.Count.{ones-le}
 use Rattle.forming.proofs.Sizing.{first-none, first_more, first_on}
 use Rattle.forming.proofs.sizes.split_from.Goals as goal

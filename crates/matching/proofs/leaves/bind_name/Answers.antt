@@ -1,7 +1,5 @@
 use Rattle.matching.proofs.Naming.{grown_same, grown_set, binds, word_held, part_word, agrees, clashes}
-use mathlib.Core.Logic.{⊎_elim}
 use mathlib.Core.Path.{refl}
-use native.Mathlib.Omega.{arith}
 use Rattle.matching.proofs.leaves.bind_name.Goals as goal
 
 pub returns-then-old-eq0 : goal.returns-then-old-eq0

@@ -1,5 +1,4 @@
 -- `order` of items: what is left to compare says what all of them say.
-use mathlib.Core.Logic.{⊎_elim}
 use native.Mathlib.Omega.{arith}
 use Rattle.parts.proofs.Ordering.{choices_start, choices_held, choice_first, choices_same, choices_lower, choices_higher, skip_first, skip_second, choices_settled, choices_more, same_size}
 use Rattle.parts.proofs.items.order.Goals as goal

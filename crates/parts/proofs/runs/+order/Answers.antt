@@ -1,5 +1,4 @@
 -- `order`: by the items at which the two runs stand, then by their rests. The measure is what is left of the first run.
-use Prim.Native.Nat.{◌-◌}
 use native.Mathlib.Omega.{arith}
 use Rattle.values.proofs.Records.{holds}
 use Rattle.parts.proofs.Running.{run_head, more_held}

@@ -1,5 +1,4 @@
 -- `count`: the number of items passed.
-use Prim.Native.Nat.{◌-◌}
 use native.Mathlib.Omega.{arith}
 use Rattle.parts.proofs.Running.{passed_start, passed_held, passed_more, passed_end, more_held, run_less}
 use Rattle.parts.proofs.runs.count.Goals as goal

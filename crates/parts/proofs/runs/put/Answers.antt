@@ -1,5 +1,4 @@
 -- `put`: the items that are done stand at the place, and the run with the others lies below it.
-use Prim.Native.Nat.{◌-◌}
 use native.Mathlib.Omega.{arith}
 use Rattle.parts.proofs.Putting.{writing_start, writing_copyable, writing_held, writing_more, writing_end}
 use Rattle.parts.proofs.runs.put.Goals as goal

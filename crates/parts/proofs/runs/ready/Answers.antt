@@ -1,5 +1,4 @@
 -- `ready`: what is chosen of the rest is what is chosen of all.
-use Prim.Native.Nat.{◌-◌}
 use native.Mathlib.Omega.{arith}
 use Rattle.values.proofs.Records.{holds}
 use Rattle.parts.proofs.Running.{seeking_start, seeking_held, seeking_more, seeking_found, seeking_end, between}

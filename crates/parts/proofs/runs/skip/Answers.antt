@@ -1,5 +1,4 @@
 -- `skip`: i items are passed, of which there are enough.
-use Prim.Native.Nat.{◌-◌}
 use native.Mathlib.Omega.{arith}
 use Rattle.parts.proofs.Running.{passing_start, passing_less, passing_more, passed_held, passed_skipped, more_held}
 use Rattle.parts.proofs.runs.skip.Goals as goal
