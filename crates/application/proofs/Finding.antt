@@ -23,7 +23,7 @@ use Rattle.collections.specs.declared.finding.Found.{Found}
 use Rattle.collections.specs.declared.finding.Found.TheVariants.{At as Place, Nothing}
 use Rattle.collections.proofs.Shown.{found_at, found_nothing}
 use Rattle.collections.specs.Finding.{AtKey, Item}
-use Rattle.operators.specs.Answer.{Answer, is, refused, wrong_kind, not_there, found}
+use Rattle.operators.specs.Answer.{Answer, refused, wrong_kind, not_there, found}
 use Rattle.operators.specs.Sequences.{item_at}
 use Rattle.operators.specs.Maps.{apply_items, apply_to}
 use Rattle.calling.specs.Scratch.{second}

@@ -1,24 +1,24 @@
 -- `-` over values: one binding, which gives no name a value, or none where there are no values; and the window over it, which holds no word.
-use mathlib.Core.Path.{◌≡◌, refl, sym, ap, subst, ◌∙◌}
+use mathlib.Core.Path.{◌≡◌, refl, sym, ap, ◌∙◌}
 use mathlib.Core.Bool.{Bool, true, false, cond}
 use mathlib.Core.List.{List, [], ◌∷◌, map}
-use Prim.Native.Nat.{ℕ, zero, suc, ◌+◌, ◌-◌, ◌*◌, ◌≤◌, ◌<◌}
+use Prim.Native.Nat.{ℕ, ◌+◌, ◌-◌, ◌*◌, ◌≤◌, ◌<◌}
 use native.Mathlib.Omega.{arith}
-use lib.ListN.{length, get_or, take, replicate}
+use lib.ListN.{length, take}
 use lib.Seq.{take-take, length-take-le}
 use Rattle.integers.specs.Bytes.{word}
 use Rattle.integers.specs.declared.Order.{Order}
-use Rattle.values.specs.Value.{Value, collection, set, Items, size}
+use Rattle.values.specs.Value.{Value, collection, set}
 use Rattle.values.specs.Items.{in_order}
-use Rattle.values.specs.Place.{At, ItemsAt, Holds}
-use Rattle.values.proofs.Records.{holds, word_size, items_none}
+use Rattle.values.specs.Place.{At, Holds}
+use Rattle.values.proofs.Records.{holds}
 use Rattle.values.proofs.Frame.{kept}
 use Rattle.tables.specs.Record.{named as operands_of}
 use Rattle.tables.specs.Table.{record_at, kind_at}
 use Rattle.tables.specs.Accepted.{records}
 use Rattle.tables.specs.Laws.Accepted.{lower}
 use Rattle.patterns.specs.Ways.{gather, exists}
-use Rattle.patterns.specs.Binding.{Binding, names, nothing, order_bindings, sorted, place}
+use Rattle.patterns.specs.Binding.{Binding, names, nothing, sorted, place}
 use Rattle.patterns.specs.Pattern.{Pattern, any, items_of, matches, wide}
 use Rattle.patterns.specs.Binder.{bindings, bound, formed, few}
 use Rattle.patterns.specs.Read.{Readable, pattern_at}
@@ -27,7 +27,7 @@ use Rattle.patterns.specs.Laws.Nodes.{is_any, pattern_at_lem}
 use Rattle.bindings.specs.declared.Cursor.{Cursor}
 use Rattle.bindings.specs.declared.Opened.TheVariants as answer
 use Rattle.bindings.specs.Forming.{Values, Bindable}
-use Rattle.bindings.specs.Window.{window, CellsAt, place_of, Windowed, Lent, OpenedAs}
+use Rattle.bindings.specs.Window.{Windowed, Lent, OpenedAs}
 use Rattle.bindings.specs.Opening.{any_count, AnyOpened}
 use Rattle.bindings.proofs.Large.{values_at}
 use Rattle.bindings.proofs.Members.{first-of, none_left}

@@ -1,7 +1,7 @@
 -- From rows in a window to bindings, and from there to an environment.
 use mathlib.Core.Path.{◌≡◌, refl, sym, ap, subst, ◌∙◌}
 use mathlib.Core.Bool.{Bool, true, false, not, cond}
-use mathlib.Core.Logic.{◌⊎◌, inl, inr}
+use mathlib.Core.Logic.{inl, inr}
 use mathlib.Core.List.{List, [], ◌∷◌, map}
 use Prim.Native.Nat.{ℕ, zero, suc, ◌+◌, ◌-◌, ◌*◌, ◌/◌, ◌%◌, ◌^◌, ◌≤◌, ◌<◌}
 use native.Mathlib.Nat.{pow-suc, mul-zero, mul-le-mul}
@@ -13,10 +13,9 @@ use lib.ListN.{length, get_or, take, drop, set as put, replicate, length-map, le
 use lib.Seq.{drop-cons, take-take, get_or-drop, get_or-set_same, get_or-set_other, length-take-le}
 use borrow.Author.Tests.{eq-eqb, ne_eqb, leb-true}
 use Rattle.prelude.proofs.Absurd.{impossible}
-use Rattle.prelude.specs.Membership.{In}
 use Rattle.integers.specs.Bytes.{bits32, word}
-use Rattle.values.specs.Value.{Value, boolean, collection, set, size}
-use Rattle.values.specs.Place.{At, ItemsAt, Holds, HoldsItems, Outside}
+use Rattle.values.specs.Value.{Value, boolean, collection, set}
+use Rattle.values.specs.Place.{At, ItemsAt, Holds}
 use Rattle.values.proofs.Records.{holds, word_size}
 use Rattle.values.proofs.Frame.{kept}
 use Rattle.tables.specs.Record.{Record, named as operands_of, name_of, shape, is_known, size as size_of}
@@ -33,9 +32,9 @@ use Rattle.patterns.specs.Ways.{gather, exists}
 use Rattle.prelude.proofs.Lists.{map_at}
 use Rattle.prelude.proofs.Membership.{at_in}
 use Rattle.patterns.specs.Laws.Members.{in_gather}
-use Rattle.patterns.specs.Binding.{Cell, free, is, clash, Binding, names, nothing, only, cell_of, sorted, place}
-use Rattle.patterns.specs.Pattern.{Pattern, name, items_of, list_of, matches, wide}
-use Rattle.patterns.specs.Binder.{bindings, Formed as Outcome, bound, refused, formed, few}
+use Rattle.patterns.specs.Binding.{Cell, free, is, Binding, names, nothing, only, cell_of, sorted, place}
+use Rattle.patterns.specs.Pattern.{Pattern, name, items_of, matches, wide}
+use Rattle.patterns.specs.Binder.{bindings, Formed as Outcome, bound, refused, formed}
 use Rattle.patterns.specs.Laws.Forming.{formed_bound}
 use Rattle.patterns.specs.Laws.Ordered.{in_sorted}
 use Rattle.patterns.specs.Laws.Named.{holds_named as named, Told, told}
@@ -45,7 +44,7 @@ use Rattle.patterns.specs.Read.{Readable, pattern_at}
 use Rattle.patterns.specs.Laws.Nodes.{is_name, pattern_at_lem}
 use Rattle.forming.specs.declared.Formed.{Formed}
 use Rattle.forming.specs.declared.Formed.TheVariants.{Number, Refused}
-use Rattle.forming.specs.Rows.{RowIs, RowsAre}
+use Rattle.forming.specs.Rows.{RowsAre}
 use Rattle.bindings.specs.declared.Cursor.{Cursor}
 use Rattle.bindings.specs.declared.Opened.{Opened}
 use Rattle.bindings.specs.declared.Opened.TheVariants as answer
@@ -55,7 +54,7 @@ use Rattle.bindings.specs.Laws.Window.{cells_end, all_free}
 use Rattle.bindings.specs.Filling.{row_words, bit, mask_of, filled, WordAt, WordsAt, RowHeld, NamesAre, FillHeld, Filled, OneName, MembersHeld, MemberAt, MembersPut}
 use Rattle.bindings.specs.Opening.{PlainHeld, PlainOpened, CursorHeld, CursorOver, LentFrom, FormedFrom}
 use Rattle.bindings.proofs.Large.{values_at}
-use Rattle.bindings.proofs.Writing.{mask_cons, filled_cons, mask_half, odd_some, odd_none, row_length, row_at, outside_wider}
+use Rattle.bindings.proofs.Writing.{mask_cons, filled_cons, mask_half, odd_some, odd_none, row_length, row_at}
 
 -- ---- the words of a row stand for its cells
 

@@ -10,19 +10,18 @@ use native.Mathlib.Omega.{arith}
 use lib.Dec.{eqb}
 use lib.ListN.{length, get_or, take, drop, length-drop, drop_of_length-le}
 use lib.Seq.{sets, length-sets, drop-cons, take-take, drop-drop, get_or-take, get_or-drop, length-take-le}
-use borrow.Author.Tests.{eq-eqb, ne_eqb, eqb-true}
+use borrow.Author.Tests.{eq-eqb, ne_eqb}
 use Rattle.prelude.proofs.Absurd.{impossible}
 use Rattle.integers.specs.Bytes.{four, bits32, word}
 use Rattle.integers.proofs.Written.{bits32_four, bits32_drop, take_sets, drop_sets}
 use Rattle.values.specs.Value.{Value, boolean}
-use Rattle.values.specs.Place.{At, ItemsAt, Holds, HoldsItems, Outside}
+use Rattle.values.specs.Place.{At, ItemsAt, Holds, Outside}
 use Rattle.values.proofs.Frame.{kept}
 use Rattle.values.proofs.Records.{holds, word_size}
 use Rattle.patterns.specs.Pattern.{items_of, list_of}
 use Rattle.patterns.specs.Laws.Matched.{items_list}
 use Rattle.parts.specs.Chosen.{odd}
 use Rattle.bindings.specs.declared.Cursor.{Cursor}
-use Rattle.bindings.specs.declared.filling.Names.{Names}
 use Rattle.bindings.specs.Window.{window, past, place_of, InWindow}
 use Rattle.bindings.specs.Laws.Window.{bits_kept, past_after}
 use Rattle.bindings.specs.Filling.{row_words, bit, mask_of, filled, WordAt, WordsAt, RowHeld, NamesAre, RowPuttable, RowPut, FillHeld, Filled, OneName, MembersHeld, MemberAt, MembersPut}

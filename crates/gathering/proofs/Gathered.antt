@@ -1,19 +1,18 @@
 -- Items of the collection at base go into an empty set above it.
-use mathlib.Core.Path.{◌≡◌, refl, sym, ap, ◌∙◌}
+use mathlib.Core.Path.{◌≡◌, refl, sym, ◌∙◌}
 use mathlib.Core.List.{List}
 use mathlib.Core.Logic.{inl}
 use Prim.Native.Nat.{ℕ, ◌+◌, ◌≤◌}
 use native.Mathlib.Omega.{arith}
 use lib.ListN.{length}
 use Rattle.integers.specs.Bytes.{word}
-use Rattle.values.specs.Value.{Kind, set, sequence, number, collection, Items, none, size, value_limit, Ascending}
+use Rattle.values.specs.Value.{Kind, set, sequence, number, collection, Items, none, size, Ascending}
 use Rattle.values.specs.Place.{At, ItemsAt, HoldsItems}
 use Rattle.values.specs.Contract.{Copyable, Copied}
 use Rattle.values.proofs.Records.{holds, items_to}
 use Rattle.values.proofs.Encoding.{collection_size, none_sizes}
 use Rattle.values.proofs.Frame.{outside_wider, outside_both, items_below}
 use Rattle.collections.specs.declared.building.Added.{Added}
-use Rattle.collections.specs.declared.building.Added.TheVariants.{Done as Put}
 use Rattle.collections.specs.Building.{Empties}
 use Rattle.collections.proofs.Additions.{added_put}
 use Rattle.operators.specs.Answer.{Answer, is}

@@ -15,7 +15,7 @@ use Rattle.values.proofs.Records.{holds}
 use Rattle.values.proofs.Frame.{outside_none, outside_both, word_below, word_above}
 use Rattle.collections.specs.declared.building.Added.{Added}
 use Rattle.collections.specs.declared.building.Added.TheVariants.{Done as Put, Full as TooLong}
-use Rattle.collections.specs.Building.{added, Apart, Room, Inserts}
+use Rattle.collections.specs.Building.{Apart, Room, Inserts}
 use Rattle.collections.proofs.Additions.{added_put, added_long}
 use Rattle.collections.proofs.Built.{at_apart, long_past}
 use Rattle.operators.specs.Gather.{insert_all}

@@ -11,7 +11,7 @@ use Rattle.values.specs.Value.{set, sequence, map, number, Value, collection, It
 use Rattle.values.specs.Items.{join}
 use Rattle.values.specs.Place.{At, ItemsAt}
 use Rattle.values.specs.Contract.{Movable, Moved, PutHead}
-use Rattle.values.proofs.Records.{Uncons, uncons, holds, word_size, one-item, collection_shaped}
+use Rattle.values.proofs.Records.{Uncons, uncons, word_size, one-item, collection_shaped}
 use Rattle.values.proofs.Joined.{join-none, join_join}
 use Rattle.collections.specs.Finding.{HoldsCollection}
 use Rattle.collections.specs.Building.{Retags}

@@ -8,13 +8,13 @@ use native.Mathlib.Omega.{arith}
 use borrow.Author.Tests.{ne_eqb}
 use Rattle.prelude.proofs.Truth.{cond-true, cond-false}
 use Rattle.integers.specs.Bytes.{word}
-use Rattle.values.specs.Value.{sequence, number, Value, collection, Items, none, more}
+use Rattle.values.specs.Value.{sequence, number, Value, collection, Items, more}
 use Rattle.values.specs.Items.{join}
 use Rattle.values.specs.Place.{At, ItemsAt}
 use Rattle.values.specs.Contract.{KindAt, Movable, Moved, PutHead}
 use Rattle.values.proofs.Records.{Uncons, uncons, items_to}
 use Rattle.values.proofs.Joined.{join-none, join_join}
-use Rattle.operators.specs.Answer.{Answer, is, refused, wrong_kind, closed, sized}
+use Rattle.operators.specs.Answer.{Answer, refused, wrong_kind, closed, sized}
 use Rattle.operators.specs.Gather.{every_item, is_kind, flatten}
 use Rattle.operator_laws.proofs.OfKind.{of_kind_is, kind_test}
 use Rattle.operator_laws.proofs.Enumerations.{fitting_built}

@@ -2,23 +2,20 @@
 use mathlib.Core.Path.{◌≡◌, refl, sym, ap, subst, ◌∙◌}
 use mathlib.Core.Bool.{Bool, true, false}
 use mathlib.Core.List.{List}
-use mathlib.Core.Logic.{inl}
 use Prim.Native.Nat.{ℕ, ◌+◌, ◌≤◌}
 use native.Mathlib.Omega.{arith}
 use lib.IntN.{ℤ, pos}
-use lib.ListN.{length}
 use mir.Syntax.{w32}
 use mir.Val.{SFits, to_z}
 use mir.ValLaws.{to_z_pos}
 use Rattle.prelude.proofs.Truth.{cond-true, cond-false}
 use Rattle.integers.specs.Bytes.{word}
 use Rattle.integers.specs.Whole.{greatest_integer, InRange}
-use Rattle.values.specs.Value.{Kind, set, integer, collection, Items, none, count, Ascending, value_limit}
+use Rattle.values.specs.Value.{set, integer, collection, none, count, value_limit}
 use Rattle.values.specs.Place.{At, ItemsAt, Holds, HoldsItems}
 use Rattle.values.specs.Contract.{Put, Copyable, Copied}
 use Rattle.values.proofs.Encoding.{collection_size, count_sizes}
 use Rattle.values.proofs.Records.{holds, items_to, items_none}
-use Rattle.values.proofs.Frame.{outside_wider, outside_both, items_below}
 use Rattle.collections.specs.declared.building.Added.{Added}
 use Rattle.collections.specs.declared.building.Added.TheVariants.{Done as Fitted, Full as TooLong}
 use Rattle.collections.specs.Finding.{HoldsCollection, Counted}
@@ -30,7 +27,7 @@ use Rattle.operators.specs.Operators.{unary}
 use Rattle.operator_laws.proofs.Ranges.{up_le}
 use Rattle.calling.specs.declared.Applied.TheVariants.{Done, Refused}
 use Rattle.calling.specs.Applied.{One, OnOne}
-use Rattle.calling.specs.Scratch.{second, third, Kept}
+use Rattle.calling.specs.Scratch.{second, third}
 use Rattle.calling.proofs.Framing.{kept_same, kept_outside, copyable_down}
 use Rattle.calling.proofs.Answering.{one_by, one_off, is_off, one_put, one_copied}
 use Rattle.calling.proofs.Kinding.{needs_off}

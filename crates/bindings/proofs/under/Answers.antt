@@ -1,4 +1,3 @@
-use mathlib.Core.Logic.{⊎_elim}
 use Rattle.bindings.proofs.Windows.{under_start, under_in, under_room, under_some, under_none, under_end}
 use native.Mathlib.Omega.{arith}
 use mathlib.Core.Path.{refl}

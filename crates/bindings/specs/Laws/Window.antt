@@ -1,14 +1,13 @@
 -- What stands in a window stays where nothing below its end changes.
-use Rattle.std.specs.Prelude.{◌≡◌, refl, Bool, true, false, List, [], ◌∷◌, ℕ, zero, suc, ◌+◌, ◌-◌, ◌*◌, ◌/◌, ◌≤◌, ◌<◌, length, get_or, take}
+use Rattle.std.specs.Prelude.{◌≡◌, refl, Bool, true, false, List, [], ◌∷◌, ℕ, zero, suc, ◌+◌, ◌*◌, ◌/◌, ◌≤◌, ◌<◌, get_or, take}
 use Rattle.std.proofs.Common.{sym, ap, subst, ◌∙◌, arith, get_or-take, take-take}
 use Rattle.integers.specs.Bytes.{bits32}
-use Rattle.values.specs.Value.{Value}
-use Rattle.patterns.specs.Binding.{Cell, free, is, Binding, nothing}
+use Rattle.patterns.specs.Binding.{Cell, free, Binding, nothing}
 use Rattle.parts.specs.Chosen.{odd}
 use Rattle.parts.specs.Part.{PartIs}
 use Rattle.parts.specs.Word.{unpacked}
 use Rattle.bindings.specs.declared.Cursor.{Cursor}
-use Rattle.bindings.specs.Window.{window, CellAt, past, CellsAt, place_of, InWindow, Windowed}
+use Rattle.bindings.specs.Window.{window, CellAt, past, CellsAt, place_of, Windowed}
 
 pub bits_kept : (s t : List ℕ) (base at : ℕ) → take base t ≡ take base s → at + 4 ≤ base → bits32 t at ≡ bits32 s at
 bits_kept s t base at e l =

@@ -1,6 +1,5 @@
 -- `insert_all` meets its contract: what the set has, with what is left, is what it will have.
 use mathlib.Core.Path.{refl, ◌∙◌}
-use Prim.Native.Nat.{◌-◌}
 use native.Mathlib.Omega.{arith}
 use Rattle.values.proofs.Frame.{outside_both}
 use Rattle.gathering.specs.Inserting.{themselves}

@@ -1,5 +1,4 @@
 -- `put_integers` meets its contract. The loop has written i of them.
-use Prim.Native.Nat.{◌-◌}
 use native.Mathlib.Omega.{arith}
 use Rattle.gathering.proofs.Spans.{integers_none, integers_more, spans_integers, added_fits, added_is, added_range}
 use Rattle.gathering.proofs.put_integers.Goals as goal

@@ -1,6 +1,5 @@
 -- `compatible` meets its contract: the maps agree on the entries passed.
 use mathlib.Core.Path.{refl}
-use Prim.Native.Nat.{◌-◌}
 use native.Mathlib.Omega.{arith}
 use Rattle.values.proofs.Records.{holds, uncons}
 use Rattle.map_operators.proofs.Agreeing.{agree_start, agree_next, agree_beside, agree_step, agree_off, agree_end}

@@ -1,6 +1,5 @@
 -- `enter_all` meets its contract: what is left of the first map, entered into by what is made of the second, is the whole.
 use mathlib.Core.Path.{refl}
-use Prim.Native.Nat.{◌-◌}
 use native.Mathlib.Omega.{arith}
 use Rattle.values.proofs.Records.{holds, uncons}
 use Rattle.map_operators.proofs.Overriding.{over_start, over_next, over_room, put_not_full, clash_not_full, over_full, over-step, over_copyable, over_end}

@@ -1,6 +1,4 @@
 -- `every_other` meets its contract: those done are every other one of the items passed.
-use mathlib.Core.Logic.{⊎_elim}
-use Prim.Native.Nat.{◌-◌}
 use native.Mathlib.Omega.{arith}
 use Rattle.values.proofs.Records.{holds}
 use Rattle.map_operators.proofs.Halving.{halving_start, halving_run, halving_movable, halving_keep, halving_past, halving_end}
@@ -42,7 +40,7 @@ loop-p-smaller c = omega arith
 pub loop-p-preserved : goal.loop-p-preserved
 loop-p-preserved c =
     elim c.if-wanted.branch [
-      then-wanted w ↦ rw (w.s-is, w.q-is) (halving_keep c.loop-p.invariant (omega arith) c.length_of-n.ensures.is w.if-wanted.true w.copy_bytes.ensures)
+      | then-wanted w ↦ rw (w.s-is, w.q-is) (halving_keep c.loop-p.invariant (omega arith) c.length_of-n.ensures.is w.if-wanted.true w.copy_bytes.ensures)
       | else-wanted w ↦ rw (w.s-is, w.q-is) (halving_past c.loop-p.invariant (omega arith) c.length_of-n.ensures.is w.if-wanted.false)
     ]
 

@@ -1,6 +1,5 @@
 -- `restrict` meets its contract: those done are the entries passed that pass the test.
 use mathlib.Core.Path.{refl}
-use Prim.Native.Nat.{◌-◌}
 use native.Mathlib.Omega.{arith}
 use Rattle.values.proofs.Records.{holds, uncons}
 use Rattle.map_operators.proofs.Restricting.{restrict_start, restrict_next, restrict_beside, restrict_movable, restrict_keep, restrict_past, restrict_end}

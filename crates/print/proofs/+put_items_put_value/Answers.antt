@@ -1,7 +1,6 @@
 -- The proof of the cycle of calls {put_items, put_value}. The measure of `put_value` is the number of bytes of the record, and that of `put_items` one
 -- more than the number of bytes left of the items.
 use mathlib.Core.Path.{sym, ◌∙◌}
-use Prim.Native.Nat.{◌-◌}
 use native.Mathlib.Omega.{arith}
 use lib.Dec.{eqb}
 use Rattle.print.proofs.Items.{spelled_end, spelled_begun, first_holds, separator_room, first_room, rest_room, items_written, boolean_text_room, boolean_written, integer_text_room, integer_written, quote_text_room, quote_written, collected_at, items_room, closing_room, collection_written}

@@ -1,5 +1,4 @@
 -- `put_bytes` meets its contract: what is left to copy comes to the same as all. The measure is what is left.
-use Prim.Native.Nat.{◌-◌}
 use native.Mathlib.Omega.{arith}
 use Rattle.print.proofs.Writing.{copying_start, text_copied_more, copying_end}
 use Rattle.print.proofs.put_bytes.Goals as goal

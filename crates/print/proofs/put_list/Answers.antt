@@ -1,6 +1,5 @@
 -- `put_list` meets its contract: what is left of the entries comes to the same as all after the first. The measure is what is left.
 use mathlib.Core.Path.{sym, ap}
-use Prim.Native.Nat.{◌-◌}
 use native.Mathlib.Omega.{arith}
 use lib.ListN.{length, length-set}
 use Rattle.print.proofs.Writing.{wrote_one, wrote_after, wrote_then, wrote_as, wrote_length}

@@ -1,6 +1,5 @@
 -- `put_word` meets its contract, by the rule of the constant table.
 use mathlib.Core.Path.{ap}
-use Prim.Native.Nat.{◌-◌}
 use native.Mathlib.Omega.{arith}
 use lib.ListN.{length}
 use Rattle.print.proofs.Writing.{wrote_as}

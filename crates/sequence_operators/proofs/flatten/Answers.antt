@@ -1,5 +1,4 @@
 -- `flatten` meets its contract: the items done, and those of the sequences left, are all.
-use Prim.Native.Nat.{◌-◌}
 use native.Mathlib.Omega.{arith}
 use Rattle.values.proofs.Records.{holds}
 use Rattle.sequence_operators.proofs.Flattening.{flat_start, flat_run, flat_wrong, flat_movable, flat_step, flat_end}

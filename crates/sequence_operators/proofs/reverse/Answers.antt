@@ -1,5 +1,4 @@
 -- `reverse` meets its contract: what is put back is the last part of the items turned round.
-use Prim.Native.Nat.{◌-◌}
 use native.Mathlib.Omega.{arith}
 use Rattle.values.proofs.Records.{holds}
 use Rattle.sequence_operators.proofs.Turning.{reverse_copyable, reverse_start, reverse_run, reverse_low, reverse_copyable_on, reverse_step, reverse_end}

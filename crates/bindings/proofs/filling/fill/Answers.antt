@@ -1,5 +1,4 @@
 use Rattle.bindings.proofs.Writing.{fill_start, fill_full, fill_end, put_asked, fill_more}
-use Prim.Native.Nat.{◌-◌}
 use native.Mathlib.Omega.{arith}
 use Rattle.bindings.proofs.filling.fill.Goals as goal
 

@@ -1,6 +1,5 @@
 use Rattle.bindings.proofs.Writing.{power_start, power_low, power_more, power_end}
 use native.Mathlib.Omega.{arith}
-use Prim.Native.Nat.{◌-◌}
 use Rattle.bindings.proofs.filling.one_name.Goals as goal
 
 pub loop-i-init : goal.loop-i-init

@@ -1,6 +1,5 @@
 use Rattle.bindings.proofs.Writing.{members_start, end_low, end_inside, member_holds, member_inside, members_more, members_end}
 use native.Mathlib.Omega.{arith}
-use Prim.Native.Nat.{◌-◌}
 use Rattle.bindings.proofs.filling.put_members.Goals as goal
 
 pub loop-at-init : goal.loop-at-init

@@ -1,5 +1,4 @@
 use mathlib.Core.Path.{sym, refl}
-use mathlib.Core.Logic.{⊎_elim}
 use Rattle.bindings.proofs.Writing.{row_start, row_end, row_in, row_room, row_some, row-none, row_length, row_at}
 use native.Mathlib.Omega.{arith}
 use Rattle.bindings.proofs.filling.put_row.Goals as goal

@@ -1,4 +1,3 @@
-use Prim.Native.Nat.{◌-◌}
 use native.Mathlib.Omega.{arith}
 use Rattle.parts.proofs.Laws.{whole_here}
 use Rattle.bindings.proofs.Large.{passing_start, passing_holds, passing_inside, one_large, passing_more, none_large}

@@ -1,5 +1,4 @@
 use Rattle.bindings.proofs.Telling.{all_start, all_holds, one_held, all_full, all_inside, all_more, all_end}
-use Prim.Native.Nat.{◌-◌}
 use native.Mathlib.Omega.{arith}
 use Rattle.bindings.proofs.forms.form_all.Goals as goal
 

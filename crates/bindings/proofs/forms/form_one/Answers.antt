@@ -1,6 +1,5 @@
 use Rattle.matching.proofs.Naming.{nothing_stands}
 use Rattle.bindings.proofs.Telling.{at_low, one_asked, one_formed}
-use Prim.Native.Nat.{◌-◌}
 use native.Mathlib.Omega.{arith}
 use Rattle.bindings.proofs.forms.form_one.Goals as goal
 

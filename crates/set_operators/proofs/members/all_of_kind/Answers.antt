@@ -1,5 +1,4 @@
 -- `set_operators::members::all_of_kind` meets its contract: the answer from here on is the answer from the start on.
-use Prim.Native.Nat.{◌-◌}
 use native.Mathlib.Omega.{arith}
 use Rattle.values.proofs.Records.{holds}
 use Rattle.gathering.proofs.Walks.{walked_first}

@@ -1,6 +1,5 @@
 -- `set_operators::members::choose` meets its contract: those put there, with those left that will be, are all that are chosen.
 use mathlib.Core.Path.{◌∙◌}
-use Prim.Native.Nat.{◌-◌}
 use native.Mathlib.Omega.{arith}
 use Rattle.values.proofs.Records.{holds}
 use Rattle.values.proofs.Frame.{outside_both}

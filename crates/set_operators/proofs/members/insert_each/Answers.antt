@@ -1,6 +1,5 @@
 -- `set_operators::members::insert_each` meets its contract: what the set has, with what is left, is what it will have.
 use mathlib.Core.Path.{refl, ◌∙◌}
-use Prim.Native.Nat.{◌-◌}
 use native.Mathlib.Omega.{arith}
 use Rattle.operators.specs.Gather.{flatten}
 use Rattle.set_operators.proofs.Testing.{sets_start, sets_on}

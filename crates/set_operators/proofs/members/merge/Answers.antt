@@ -1,5 +1,4 @@
 -- `set_operators::members::merge` meets its contract: what is built is the union of the members passed.
-use Prim.Native.Nat.{◌-◌}
 use native.Mathlib.Omega.{arith}
 use Rattle.values.proofs.Records.{holds}
 use Rattle.set_operators.proofs.Merging.{merge_start, merge_holds, merge_full, merge_copy, merge_on, merge_less, merge_close}
