@@ -14,7 +14,7 @@ use Rattle.parts.specs.Part.{PartIs}
 use Rattle.parts.specs.Contract.{whole_at}
 use Rattle.patterns.specs.Ways.{exists}
 use Rattle.patterns.specs.Pattern.{Pattern, items_of, list_of, wide}
-use Rattle.patterns.specs.Laws.Matched.{items_list}
+use Rattle.patterns.proofs.Laws.Matched.{items_list}
 use Rattle.patterns.specs.Read.{pattern_at}
 use Rattle.prelude.proofs.Absurd.{true_false}
 use Rattle.bindings.specs.Forming.{Values, Bindable, TellsWideIn, TellsWide}

@@ -15,17 +15,18 @@ use Rattle.tables.specs.Record.{Record, is_pattern, is_composed, named, operand}
 use Rattle.tables.specs.Table.{record_at, kind_at}
 use Rattle.tables.specs.Sheet.{fold, some, is_in, parent}
 use Rattle.tables.specs.Check.{all_named}
-use Rattle.tables.specs.Laws.Below.{OperandsLower as Lower, fold_at, parent_higher}
-use Rattle.tables.specs.Laws.Tests.{in_append}
+use Rattle.tables.proofs.Laws.Below.{OperandsLower as Lower, fold_at, parent_higher}
+use Rattle.tables.proofs.Laws.Tests.{in_append}
 use Rattle.tables.specs.Accepted.{records}
-use Rattle.tables.specs.Laws.Accepted.{Clear6, lower, operand_lower, operand_first, operand_parent}
+use Rattle.tables.proofs.Laws.Accepted.{lower, operand_lower, operand_first, operand_parent}
+use Rattle.tables.specs.Check.{Clear6}
 use Rattle.patterns.specs.Pattern.{Pattern, any}
 use Rattle.forming.specs.Inner.{inner, inner_each}
 use Rattle.matching.specs.Node.{inner_of}
 use Rattle.matching.proofs.Records.{by_record, inner_length, count_two, operand_readable}
 use Rattle.patterns.specs.Read.{Readable, patterns_of, pattern_of, pattern_at}
 use Rattle.patterns.specs.Nodes.{is_halved}
-use Rattle.patterns.specs.Laws.Nodes.{on_leaf, on_composed}
+use Rattle.patterns.proofs.Laws.Nodes.{on_leaf, on_composed}
 use Rattle.prelude.proofs.Absurd.{true_false}
 
 -- ---- truths

@@ -16,14 +16,14 @@ use Rattle.values.proofs.Frame.{kept}
 use Rattle.tables.specs.Record.{named as operands_of}
 use Rattle.tables.specs.Table.{record_at, kind_at}
 use Rattle.tables.specs.Accepted.{records}
-use Rattle.tables.specs.Laws.Accepted.{lower}
+use Rattle.tables.proofs.Laws.Accepted.{lower}
 use Rattle.patterns.specs.Ways.{gather, exists}
 use Rattle.patterns.specs.Binding.{Binding, names, nothing, sorted, place}
 use Rattle.patterns.specs.Pattern.{Pattern, any, items_of, matches, wide}
 use Rattle.patterns.specs.Binder.{bindings, bound, formed, few}
 use Rattle.patterns.specs.Read.{Readable, pattern_at}
-use Rattle.patterns.specs.Laws.Ordered.{bindings_refl}
-use Rattle.patterns.specs.Laws.Nodes.{is_any, pattern_at_lem}
+use Rattle.patterns.proofs.Laws.Ordered.{bindings_refl}
+use Rattle.patterns.proofs.Laws.Nodes.{is_any, pattern_at_lem}
 use Rattle.bindings.specs.declared.Cursor.{Cursor}
 use Rattle.bindings.specs.declared.Opened.TheVariants as answer
 use Rattle.bindings.specs.Forming.{Values, Bindable}

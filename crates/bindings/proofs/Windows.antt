@@ -21,7 +21,7 @@ use Rattle.values.proofs.Frame.{kept}
 use Rattle.tables.specs.Record.{Record, named as operands_of, name_of, shape, is_known, size as size_of}
 use Rattle.tables.specs.Table.{record_at, kind_at}
 use Rattle.tables.specs.Accepted.{records}
-use Rattle.tables.specs.Laws.Accepted.{lower, fit_known, fit_least}
+use Rattle.tables.proofs.Laws.Accepted.{lower, fit_known, fit_least}
 use Rattle.tables.specs.Reading.{HasField}
 use Rattle.parts.specs.Part.{PartIs, CellIs}
 use Rattle.parts.specs.Chosen.{odd}
@@ -31,17 +31,18 @@ use Rattle.parts.proofs.Packing.{cell_free, cell_value}
 use Rattle.patterns.specs.Ways.{gather, exists}
 use Rattle.prelude.proofs.Lists.{map_at}
 use Rattle.prelude.proofs.Membership.{at_in}
-use Rattle.patterns.specs.Laws.Members.{in_gather}
+use Rattle.patterns.proofs.Laws.Members.{in_gather}
 use Rattle.patterns.specs.Binding.{Cell, free, is, Binding, names, nothing, only, cell_of, sorted, place}
 use Rattle.patterns.specs.Pattern.{Pattern, name, items_of, matches, wide}
 use Rattle.patterns.specs.Binder.{bindings, Formed as Outcome, bound, refused, formed}
-use Rattle.patterns.specs.Laws.Forming.{formed_bound}
-use Rattle.patterns.specs.Laws.Ordered.{in_sorted}
-use Rattle.patterns.specs.Laws.Named.{holds_named as named, Told, told}
-use Rattle.patterns.specs.Laws.Matched.{matched, only_sized, list_items}
-use Rattle.patterns.specs.Laws.Plain.{plain_formed}
+use Rattle.patterns.proofs.Laws.Forming.{formed_bound}
+use Rattle.patterns.proofs.Laws.Ordered.{in_sorted}
+use Rattle.patterns.proofs.Laws.Named.{Told, told}
+use Rattle.patterns.specs.Pattern.{holds_named as named}
+use Rattle.patterns.proofs.Laws.Matched.{matched, only_sized, list_items}
+use Rattle.patterns.proofs.Laws.Plain.{plain_formed}
 use Rattle.patterns.specs.Read.{Readable, pattern_at}
-use Rattle.patterns.specs.Laws.Nodes.{is_name, pattern_at_lem}
+use Rattle.patterns.proofs.Laws.Nodes.{is_name, pattern_at_lem}
 use Rattle.forming.specs.declared.Formed.{Formed}
 use Rattle.forming.specs.declared.Formed.TheVariants.{Number, Refused}
 use Rattle.forming.specs.Rows.{RowsAre}

@@ -19,7 +19,7 @@ use Rattle.values.specs.Place.{At, ItemsAt, Holds, Outside}
 use Rattle.values.proofs.Frame.{kept}
 use Rattle.values.proofs.Records.{holds, word_size}
 use Rattle.patterns.specs.Pattern.{items_of, list_of}
-use Rattle.patterns.specs.Laws.Matched.{items_list}
+use Rattle.patterns.proofs.Laws.Matched.{items_list}
 use Rattle.parts.specs.Chosen.{odd}
 use Rattle.bindings.specs.declared.Cursor.{Cursor}
 use Rattle.bindings.specs.Window.{window, past, place_of, InWindow}

@@ -10,9 +10,10 @@ use Rattle.tables.specs.Record.{Record, named, operand, role_at}
 use Rattle.tables.specs.Table.{record_at}
 use Rattle.tables.specs.Sheet.{parent, is_in, climb}
 use Rattle.prelude.proofs.Truth.{by_lower}
-use Rattle.tables.specs.Laws.Tests.{low, Place, in_place}
-use Rattle.tables.specs.Laws.Below.{parent_higher, climb_up, climb_top}
-use Rattle.tables.specs.Laws.Accepted.{Clear6, lower, operand_lower, operand_parent, operand_role}
+use Rattle.tables.proofs.Laws.Tests.{low, Place, in_place}
+use Rattle.tables.proofs.Laws.Below.{parent_higher, climb_up, climb_top}
+use Rattle.tables.proofs.Laws.Accepted.{lower, operand_lower, operand_parent, operand_role}
+use Rattle.tables.specs.Check.{Clear6}
 use Rattle.checking.specs.Scopes.{or_bits, given, around, Around}
 
 -- The bits around record q are handed on to its operands below i.

@@ -15,7 +15,8 @@ use Rattle.prelude.proofs.Truth.{by_test, by_lower}
 use Rattle.tables.specs.Record.{Record, operand}
 use Rattle.tables.specs.Table.{record_at, kind_at}
 use Rattle.tables.specs.Check.{all_named, has_bad}
-use Rattle.tables.specs.Laws.Accepted.{Clear6, operand_lower, bound_last, named_all, last_sort}
+use Rattle.tables.proofs.Laws.Accepted.{operand_lower, bound_last, named_all, last_sort}
+use Rattle.tables.specs.Check.{Clear6}
 use Rattle.checking.specs.declared.sweep.Sum.{Sum}
 use Rattle.checking.specs.Scopes.{has_bit, bits_below}
 use Rattle.checking.specs.Sweeps.{sort_of, Left, alone_of, Passes, Frees, Allowed, Keeps, Known, Sums, RecordAdded, Passed, Closed}

@@ -15,7 +15,7 @@ use Rattle.tables.specs.Record.{Record, named, operand, role_at, name_of}
 use Rattle.tables.specs.Table.{record_at, kind_at}
 use Rattle.tables.specs.Sheet.{some, is_name, holds_name, is_covered, is_condition, pattern_of, is_bound, in_condition}
 use Rattle.tables.specs.Check.{fault7}
-use Rattle.tables.specs.Laws.Accepted.{operand_lower, bound_operand, condition_operand, holds_at_lem}
+use Rattle.tables.proofs.Laws.Accepted.{operand_lower, bound_operand, condition_operand, holds_at_lem}
 use Rattle.checking.specs.Scopes.{has_bit, or_bits}
 use Rattle.checking.specs.Sweeps.{Keeps, Allowed}
 use Rattle.checking.proofs.Bits.{bit_union}

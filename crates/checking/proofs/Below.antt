@@ -13,8 +13,8 @@ use Rattle.tables.specs.Record.{Record, Head, name, shape, size, head_of, named,
 use Rattle.tables.specs.Table.{record_at}
 use Rattle.tables.specs.Sheet.{is_loose}
 use Rattle.prelude.proofs.Truth.{by_lower}
-use Rattle.tables.specs.Laws.Below.{OperandsLower as Lower, fold_at}
-use Rattle.tables.specs.Laws.Accepted.{fit_least, fit_known}
+use Rattle.tables.proofs.Laws.Below.{OperandsLower as Lower, fold_at}
+use Rattle.tables.proofs.Laws.Accepted.{fit_least, fit_known}
 use Rattle.checking.specs.Scopes.{or_bits, or_bits_all, own, bits_below, Filled}
 
 pub one_bit : (n : ℕ) → n < 32 → (1 * 2 ^ n) % 4294967296 ≡ 2 ^ n

@@ -17,7 +17,8 @@ use Rattle.tables.specs.Record.{Record, named, operand, role_at, name_of}
 use Rattle.tables.specs.Table.{record_at, kind_at}
 use Rattle.tables.specs.Sheet.{some, is_name, holds_name, is_covered, pattern_of, is_bound, in_condition}
 use Rattle.tables.specs.Check.{chooses, fault7, fault8}
-use Rattle.tables.specs.Laws.Accepted.{condition_last, Clear6, bound_operand, condition_operand, bound_last, holds_at_lem}
+use Rattle.tables.proofs.Laws.Accepted.{condition_last, bound_operand, condition_operand, bound_last, holds_at_lem}
+use Rattle.tables.specs.Check.{Clear6}
 use Rattle.checking.specs.Scopes.{has_bit}
 use Rattle.checking.specs.Sweeps.{without, apart, Passes, Frees}
 use Rattle.checking.proofs.Reaching.{from_last}

@@ -8,7 +8,7 @@ use Rattle.tables.specs.Record.{Record, name_of}
 use Rattle.tables.specs.Table.{record_at, kind_at}
 use Rattle.tables.specs.Sheet.{loose, pattern_of, is_bound, in_condition}
 use Rattle.tables.specs.Check.{fault7, chooses, fault8}
-pub use Rattle.tables.specs.Laws.Accepted.{let_operand}
+pub use Rattle.tables.proofs.Laws.Accepted.{let_operand}
 
 module _ (rs : List Record) (r : ℕ) (b : Bool) where
   pub read7 : kind_at rs r ≡ 3 → b ≡ is_bound rs r (name_of (record_at rs r)) → not b ≡ fault7 rs r

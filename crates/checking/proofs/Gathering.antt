@@ -22,9 +22,10 @@ use Rattle.tables.specs.Sheet.{some, is_in, loose, holds_name, is_covered, is_co
 use Rattle.tables.specs.Check.{is_of_sort, all_named, named_before, is_bad, chooses}
 use Rattle.tables.specs.Accepted.{records}
 use Rattle.tables.specs.Reading.{Here}
-use Rattle.tables.specs.Laws.Tests.{any_false}
-use Rattle.tables.specs.Laws.Kinds.{binder_kind, binder_from, binder_most, plain_begins}
-use Rattle.tables.specs.Laws.Accepted.{Clear6, lower, operand_lower, operand_sort, operand_first, name_bound, choice_outside, fit_records, fit_kind}
+use Rattle.tables.proofs.Laws.Tests.{any_false}
+use Rattle.tables.proofs.Laws.Kinds.{binder_kind, binder_from, binder_most, plain_begins}
+use Rattle.tables.proofs.Laws.Accepted.{lower, operand_lower, operand_sort, operand_first, name_bound, choice_outside, fit_records, fit_kind}
+use Rattle.tables.specs.Check.{Clear6}
 use Rattle.checking.specs.declared.sweep.Sum.{Sum}
 use Rattle.checking.specs.declared.sweep.Handed.{Handed}
 use Rattle.checking.specs.Scopes.{has_bit, or_bits, own, bits_below}

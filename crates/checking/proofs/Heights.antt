@@ -15,11 +15,12 @@ use Rattle.tables.specs.Shapes.{first_of}
 use Rattle.tables.specs.Table.{record_at, kind_at}
 use Rattle.tables.specs.Sheet.{lowest, greatest, height}
 use Rattle.tables.specs.Check.{most_height, fault9}
-use Rattle.tables.specs.Laws.Tests.{low, low_same}
-use Rattle.tables.specs.Laws.Kinds.{each_kind}
-use Rattle.tables.specs.Laws.Through.{EachTo, each_start, each_next}
-use Rattle.tables.specs.Laws.Operands.{greatest_most}
-use Rattle.tables.specs.Laws.Accepted.{Clear6, fit_kind, operand_lower, height-at, height_operand}
+use Rattle.tables.proofs.Laws.Tests.{low, low_same}
+use Rattle.tables.proofs.Laws.Kinds.{each_kind}
+use Rattle.tables.proofs.Laws.Through.{EachTo, each_start, each_next}
+use Rattle.tables.proofs.Laws.Operands.{greatest_most}
+use Rattle.tables.proofs.Laws.Accepted.{fit_kind, operand_lower, height-at, height_operand}
+use Rattle.tables.specs.Check.{Clear6}
 use Rattle.checking.specs.Scopes.{Filled}
 use Rattle.checking.specs.Heights.{LastLow, LeafFirst}
 use Rattle.checking.proofs.Shapes.{roles_many}

@@ -15,7 +15,8 @@ use Rattle.tables.specs.Record.{Record, is_expression, is_pattern, is_fit, opera
 use Rattle.tables.specs.Table.{record_at, kind_at}
 use Rattle.tables.specs.Sheet.{is_in}
 use Rattle.tables.specs.Check.{is_of_sort, all_named, named_before, is_bad, has_bad, fault6}
-use Rattle.tables.specs.Laws.Accepted.{Clear6, fit_expression}
+use Rattle.tables.proofs.Laws.Accepted.{fit_expression}
+use Rattle.tables.specs.Check.{Clear6}
 use Rattle.checking.specs.Sweeps.{sort_of, left_at, Left}
 use Rattle.checking.proofs.Marks.{in_more, in_last, bad_named}
 

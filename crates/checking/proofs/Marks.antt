@@ -16,7 +16,7 @@ use Rattle.tables.specs.Table.{no_record, record_at, kind_at}
 use Rattle.tables.specs.Sheet.{any, lowest, is_in}
 use Rattle.tables.specs.Check.{is_of_sort, all_named, named_before, is_bad, has_bad, is_stray, fault6}
 use Rattle.prelude.proofs.Truth.{by_lower}
-use Rattle.tables.specs.Laws.Tests.{in_append}
+use Rattle.tables.proofs.Laws.Tests.{in_append}
 use Rattle.tables.specs.Accepted.{records}
 use Rattle.checking.proofs.Scan.{low_more, lowest_either}
 use Rattle.checking.specs.Naming.{Marked, MarkedOne, MarkedNext, MarkedAll}

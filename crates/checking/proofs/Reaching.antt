@@ -11,9 +11,10 @@ use Rattle.tables.specs.Record.{Record, named, operand}
 use Rattle.tables.specs.Table.{record_at}
 use Rattle.tables.specs.Sheet.{is_in, parent}
 use Rattle.tables.specs.Check.{all_named}
-use Rattle.tables.specs.Laws.Tests.{in_append, low, Place, in_place}
-use Rattle.tables.specs.Laws.Below.{parent_higher}
-use Rattle.tables.specs.Laws.Accepted.{Clear6, lower, operand_lower, named_all}
+use Rattle.tables.proofs.Laws.Tests.{in_append, low, Place, in_place}
+use Rattle.tables.proofs.Laws.Below.{parent_higher}
+use Rattle.tables.proofs.Laws.Accepted.{lower, operand_lower, named_all}
+use Rattle.tables.specs.Check.{Clear6}
 
 -- A number that no record names is not named at all.
 none_named : (n : ℕ) (qs : List Record) → ((q : ℕ) → q < length qs → is_in n (named (record_at qs q)) ≡ false) → is_in n (all_named qs) ≡ false

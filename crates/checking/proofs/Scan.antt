@@ -8,7 +8,7 @@ use lib.Dec.{ltb}
 use mathlib.Mathlib.Data.Bool.Basic.{or_inl, or_inr}
 use Rattle.prelude.proofs.Truth.{or_false_both, by_lower}
 use Rattle.tables.specs.Sheet.{lowest}
-use Rattle.tables.specs.Laws.Tests.{low, low_same}
+use Rattle.tables.proofs.Laws.Tests.{low, low_same}
 
 module _ (test : ℕ → Bool) where
   pub low_within : (l r : ℕ) → l ≡ lowest test r → l ≤ r

@@ -14,12 +14,12 @@ use Rattle.tables.specs.declared.Role.{Role}
 use Rattle.tables.specs.declared.Role.TheVariants.{Plain, Condition, Body, Pattern, Name}
 use Rattle.tables.specs.Record.{Record, last_kind, shape, size, head_of, is_expression, is_pattern, is_fit, operands, named, role_at}
 use Rattle.tables.specs.Sheet.{any, is_binder}
-use Rattle.tables.specs.Laws.Tests.{each}
-use Rattle.tables.specs.Laws.Kinds.{each_kind, not_loose, binder_most, pattern_least}
+use Rattle.tables.proofs.Laws.Tests.{each}
+use Rattle.tables.proofs.Laws.Kinds.{each_kind, not_loose, binder_most, pattern_least}
 use Rattle.tables.specs.Shapes.{binder_role}
-use Rattle.tables.specs.Laws.Roles.{role_by, role_by_lem, binder_later}
-use Rattle.tables.specs.Laws.Operands.{operands_few, is_first, binder_roles}
-use Rattle.tables.specs.Laws.Accepted.{named_count, fit_least, fit_kind}
+use Rattle.tables.proofs.Laws.Roles.{role_by, role_by_lem, binder_later}
+use Rattle.tables.proofs.Laws.Operands.{operands_few, is_first, binder_roles}
+use Rattle.tables.proofs.Laws.Accepted.{named_count, fit_least, fit_kind}
 use Rattle.checking.specs.Scopes.{own}
 use Rattle.tables.specs.Check.{is_of_sort}
 use Rattle.checking.specs.Sweeps.{sort_of, asked, is_named, one_role}

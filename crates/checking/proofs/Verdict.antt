@@ -15,9 +15,10 @@ use Rattle.tables.specs.Sheet.{lowest}
 use Rattle.tables.specs.Check.{most_bytes, most_records, fault6, fault7, fault8, fault9, judged, judged_cut, check}
 use Rattle.prelude.proofs.Absurd.{impossible, never}
 use Rattle.prelude.proofs.Truth.{by_lower}
-use Rattle.tables.specs.Laws.Tests.{low}
+use Rattle.tables.proofs.Laws.Tests.{low}
 use Rattle.tables.specs.Accepted.{records}
-use Rattle.tables.specs.Laws.Accepted.{Clear6, some_cut}
+use Rattle.tables.proofs.Laws.Accepted.{some_cut}
+use Rattle.tables.specs.Check.{Clear6}
 use Rattle.tables.specs.Reading.{Indexed, CutOut}
 use Rattle.tables.specs.declared.reading.Cutting.{Cutting}
 use Rattle.checking.specs.Answer.{Checks}

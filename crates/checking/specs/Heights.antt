@@ -5,7 +5,7 @@ use Rattle.tables.specs.Shapes.{first_of}
 use Rattle.tables.specs.Table.{record_at, kind_at}
 use Rattle.tables.specs.Sheet.{height}
 use Rattle.tables.specs.Accepted.{records}
-use Rattle.tables.specs.Laws.Accepted.{Clear6}
+use Rattle.tables.specs.Check.{Clear6}
 use Rattle.tables.specs.Reading.{Here}
 use Rattle.checking.specs.Scopes.{Filled}
 

@@ -8,7 +8,7 @@ use Rattle.tables.specs.Table.{record_at}
 use Rattle.tables.specs.Sheet.{fold, is_loose, parent, pattern_of, climb}
 use Rattle.tables.specs.Check.{most_records}
 use Rattle.tables.specs.Accepted.{records}
-use Rattle.tables.specs.Laws.Accepted.{Clear6}
+use Rattle.tables.specs.Check.{Clear6}
 use Rattle.tables.specs.Reading.{Here, HasOperand}
 use Rattle.checking.specs.Naming.{WholeTable}
 

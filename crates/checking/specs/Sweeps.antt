@@ -8,7 +8,7 @@ use Rattle.tables.specs.Table.{record_at, kind_at}
 use Rattle.tables.specs.Sheet.{is_in, holds_name, is_covered, is_condition, is_binder, pattern_of, is_bound, in_condition}
 use Rattle.tables.specs.Check.{most_records, all_named, has_bad, chooses, fault7, fault8}
 use Rattle.tables.specs.Accepted.{records}
-use Rattle.tables.specs.Laws.Accepted.{Clear6}
+use Rattle.tables.specs.Check.{Clear6}
 use Rattle.tables.specs.Reading.{Indexed, Here}
 use Rattle.checking.specs.Naming.{WholeTable}
 use Rattle.checking.specs.Scopes.{has_bit, or_bits, bits_below}

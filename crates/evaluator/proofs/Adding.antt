@@ -17,7 +17,7 @@ use Rattle.operators.specs.Enumerations.{add_entry}
 use Rattle.tables.specs.Record.{named}
 use Rattle.tables.specs.Table.{record_at}
 use Rattle.tables.specs.Accepted.{records}
-use Rattle.tables.specs.Laws.Accepted.{height_operand, height-at, operand_lower}
+use Rattle.tables.proofs.Laws.Accepted.{height_operand, height-at, operand_lower}
 use Rattle.patterns.specs.Binding.{Binding, nothing}
 use Rattle.calling.specs.Scratch.{Kept}
 use Rattle.calling.proofs.Framing.{kept_then, kept_less, kept_same}

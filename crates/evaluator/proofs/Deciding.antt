@@ -1,20 +1,16 @@
 -- What the functions for let, let-be and the quantifiers have in reach.
 use mathlib.Core.Path.{◌≡◌, refl, sym, ap, subst, ◌∙◌}
 use mathlib.Core.Bool.{Bool, true, false, not}
-use mathlib.Core.Logic.{inl, inr}
-use mathlib.Core.List.{List, [], ◌∷◌}
+use mathlib.Core.List.{List}
 use Prim.Native.Nat.{ℕ, zero, suc, ◌/◌, ◌%◌}
 use lib.Dec.{eqb}
 use borrow.Author.Tests.{eq-eqb, ne_eqb}
 use native.Mathlib.Omega.{arith}
 use native.Mathlib.Decide.{ℕ_discrete}
-use denote.Enum.Declared.{tag_of}
-use types.Run.{OneOf}
 use Rattle.prelude.proofs.Absurd.{impossible}
 use Rattle.choices.specs.State.{Choices}
 use Rattle.choices.specs.declared.Answer.{Answer}
 use Rattle.choices.specs.declared.Answer.TheVariants.{Taken, Many, Short, Beyond}
-use Rattle.choices.specs.contracts.Answer as answer
 use Rattle.tables.specs.Record.{shape}
 use Rattle.tables.specs.Table.{kind_at}
 use Rattle.tables.specs.Sheet.{loose as loose_in}
@@ -22,7 +18,7 @@ use Rattle.tables.specs.Accepted.{records, Fine}
 use Rattle.tables.specs.Reading.{Here, HasOperand}
 use Rattle.patterns.specs.Pattern.{loose}
 use Rattle.patterns.specs.Read.{pattern_at}
-use Rattle.meaning.specs.Laws.PatternLaws.{loose_is}
+use Rattle.meaning.proofs.Laws.PatternLaws.{loose_is}
 use Rattle.parts.specs.declared.words.Env.{Env}
 use Rattle.evaluator.specs.declared.Outcome.TheVariants.{Value as HasValue}
 use Rattle.lists.specs.Choosing.{Picks}

@@ -22,8 +22,8 @@ use Rattle.meaning.specs.Node.{Node, binary_of, connective, no_expression}
 use Rattle.meaning.specs.State.{State, value_in}
 use Rattle.meaning.specs.Meaning.{all_of, enumerated, at, or_else, both_of, right_of, is_true, means}
 use Rattle.meaning.specs.Read.{nodes, none, node_of, binary_node, sheet}
-use Rattle.meaning.specs.Laws.Equation.{meaning_is}
-use Rattle.meaning.specs.Laws.Proper.{Literal, proper, downward}
+use Rattle.meaning.proofs.Laws.Equation.{meaning_is}
+use Rattle.meaning.proofs.Laws.Proper.{Literal, proper, downward}
 use Rattle.evaluator.specs.Contract.{Legal, meant}
 
 module _ {table index : List ℕ} (L : Legal table index) (r : ℕ) (ρ : State) where

@@ -4,7 +4,7 @@ use mathlib.Core.Logic.{◌⊎◌, inl, inr}
 use Prim.Native.Nat.{ℕ, ◌≤◌}
 use native.Mathlib.Omega.{arith}
 use Rattle.tables.specs.Shapes.{first_of}
-use Rattle.tables.specs.Laws.Kinds.{plain_begins, operator_begins}
+use Rattle.tables.proofs.Laws.Kinds.{plain_begins, operator_begins}
 use Rattle.evaluator.specs.Building.{Enumerated}
 use Rattle.evaluator.specs.Binding.{Binder}
 

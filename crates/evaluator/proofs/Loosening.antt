@@ -9,9 +9,9 @@ use lib.Seq.{drop-cons, drop-length}
 use Rattle.tables.specs.Record.{shape, Record, named, operand}
 use Rattle.tables.specs.Table.{record_at, kind_at}
 use Rattle.tables.specs.Sheet.{some, is_loose, loose}
-use Rattle.tables.specs.Laws.Below.{fold_at}
+use Rattle.tables.proofs.Laws.Below.{fold_at}
 use Rattle.tables.specs.Accepted.{records, Fine}
-use Rattle.tables.specs.Laws.Accepted.{lower, operand_lower}
+use Rattle.tables.proofs.Laws.Accepted.{lower, operand_lower}
 use Rattle.tables.specs.Reading.{Here, HasOperand}
 
 -- Whether a kind is loose, by its row.

@@ -20,7 +20,7 @@ use Rattle.tables.specs.Record.{shape, operand}
 use Rattle.tables.specs.Table.{record_at, kind_at}
 use Rattle.tables.specs.Accepted.{records}
 use Rattle.tables.specs.Reading.{HasOperand, HasField}
-use Rattle.tables.specs.Laws.Accepted.{named_count}
+use Rattle.tables.proofs.Laws.Accepted.{named_count}
 use Rattle.operations.specs.Numbers.{Unary}
 use Rattle.calling.specs.declared.Applied.{Applied}
 use Rattle.calling.specs.declared.Tested.{Tested}
@@ -37,7 +37,7 @@ use Rattle.evaluator.specs.declared.Truth.TheVariants.{True, False, Other}
 use Rattle.evaluator.specs.Contract.{Evaluated, Ask, Gives, meant, level, operator_at}
 use Rattle.evaluator.specs.Leaves.{Tells, of_two, OfTwo, Strict}
 use Rattle.evaluator.specs.Building.{Enumerated}
-use Rattle.evaluator.specs.Binding.{Remaining, Comprehension}
+use Rattle.evaluator.specs.Binding.{Remaining}
 use Rattle.evaluator.specs.Word.{ending, word_of, applied_word}
 use Rattle.evaluator.proofs.Wording.{word_applied, decoded, as_word, refused_at}
 use Rattle.evaluator.proofs.Tables.{fine_of, small_place, has_operand, has_field, lower_down, unary_number, binary_number}

@@ -9,15 +9,15 @@ use lib.ListN.{length, get_or}
 use borrow.Author.Tests.{le-leb, leb-true}
 use Rattle.prelude.proofs.Truth.{implied}
 use Rattle.choices.specs.Tree.{Tree, give, stop, choose, bind}
-use Rattle.tables.specs.Laws.Tests.{each as all_kinds}
+use Rattle.tables.proofs.Laws.Tests.{each as all_kinds}
 use Rattle.tables.specs.Record.{Record, shape}
 use Rattle.tables.specs.declared.Role.TheVariants.{Plain}
 use Rattle.tables.specs.Table.{kind_at}
 use Rattle.tables.specs.Sheet.{in_condition, is_condition}
 use Rattle.tables.specs.Accepted.{records}
-use Rattle.tables.specs.Laws.Accepted.{operand_lower, condition_operand}
+use Rattle.tables.proofs.Laws.Accepted.{operand_lower, condition_operand}
 use Rattle.meaning.specs.State.{State}
-use Rattle.meaning.specs.Laws.Conditions.{OneLeaf, condition_leaf}
+use Rattle.meaning.proofs.Laws.Conditions.{OneLeaf, condition_leaf}
 use Rattle.evaluator.specs.Contract.{Legal, meant, operand_at}
 use Rattle.evaluator.proofs.Tables.{fine_of, operand_here}
 

@@ -7,7 +7,7 @@ use native.Mathlib.Omega.{arith}
 use lib.ListN.{length, get_or, replicate, get_or-replicate}
 use Rattle.values.specs.Place.{At}
 use Rattle.tables.specs.Accepted.{records}
-use Rattle.tables.specs.Laws.Accepted.{accepted_fine, height_most}
+use Rattle.tables.proofs.Laws.Accepted.{accepted_fine, height_most}
 use Rattle.choices.specs.State.{Choices}
 use Rattle.patterns.specs.Binding.{free}
 use Rattle.parts.specs.declared.words.Env.{Env}

@@ -13,23 +13,23 @@ use Rattle.values.specs.Value.{Value}
 use Rattle.values.proofs.Records.{one_value}
 use Rattle.values.proofs.Frame.{below_less}
 use Rattle.choices.specs.State.{Choices}
-use Rattle.tables.specs.Laws.Kinds.{binder_kind}
+use Rattle.tables.proofs.Laws.Kinds.{binder_kind}
 use Rattle.tables.specs.Record.{shape, is_pattern}
 use Rattle.tables.specs.Table.{record_at, kind_at}
-use Rattle.tables.specs.Laws.Tests.{each}
+use Rattle.tables.proofs.Laws.Tests.{each}
 use Rattle.tables.specs.Accepted.{records}
-use Rattle.tables.specs.Laws.Accepted.{fit_least, named_count, binder_pattern}
+use Rattle.tables.proofs.Laws.Accepted.{fit_least, named_count, binder_pattern}
 use Rattle.tables.specs.Sheet.{is_binder}
 use Rattle.tables.specs.Reading.{HasOperand}
 use Rattle.patterns.specs.Read.{Readable}
 use Rattle.patterns.specs.Binding.{Cell, free, is, clash, Binding, nothing, cell_of}
 use Rattle.patterns.specs.Pattern.{list_of, items_of}
 use Rattle.patterns.specs.Binder.{bound, formed}
-use Rattle.patterns.specs.Laws.Matched.{list_items}
+use Rattle.patterns.proofs.Laws.Matched.{list_items}
 use Rattle.parts.specs.Part.{CellIs}
 use Rattle.calling.specs.Scratch.{Kept}
 use Rattle.meaning.specs.State.{State, over, under}
-use Rattle.meaning.specs.Laws.Reads.{under_length}
+use Rattle.meaning.proofs.Laws.Reads.{under_length}
 use Rattle.bindings.specs.declared.Cursor.{Cursor}
 use Rattle.parts.specs.declared.words.Env.{Env}
 use Rattle.parts.specs.Word.{unpacked}

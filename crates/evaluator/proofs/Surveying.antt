@@ -28,12 +28,12 @@ use Rattle.bindings.specs.declared.Cursor.{Cursor}
 use Rattle.parts.specs.declared.words.Env.{Env}
 use Rattle.lists.specs.Choosing.{first, due_for}
 use Rattle.evaluator.specs.Binding.{Placed, Held, Counted, Binder, pattern_for, listed, Standing, Begins, Stands, Turned, holds_in, Tests, Marks, surveyed, counting, marking, Marked, Surveys}
-use Rattle.meaning.specs.Laws.Conditions.{OneLeaf}
+use Rattle.meaning.proofs.Laws.Conditions.{OneLeaf}
 use Rattle.evaluator.specs.Contract.{Ask, Around, ended, Comes, gave, off, Gives, meant, operand_at}
 use Rattle.evaluator.proofs.Framing.{around_kept}
 use Rattle.evaluator.proofs.Coming.{value_refused, comes_on, comes_stop, comes_sound, comes_held}
 use Rattle.evaluator.proofs.Leading.{Leads, leads_start, leads_as, leads_came}
-use Rattle.evaluator.proofs.Quieting.{leaf_bind, quiet}
+use Rattle.evaluator.proofs.Quieting.{leaf_bind}
 use Rattle.evaluator.proofs.Satisfying.{testing, passing, testing_start, testing_end, testing_off, testing_on, marks_start, marks_more}
 use Rattle.evaluator.proofs.Standing.{standing_one}
 use Rattle.evaluator.proofs.Opening.{ask_again, opened_asked}

@@ -12,7 +12,7 @@ use Rattle.integers.specs.Whole.{InRange}
 use Rattle.tables.specs.Record.{shape, size, named, operand, name_of, is_known, head_of, integer_of}
 use Rattle.tables.specs.Table.{record_at, kind_at}
 use Rattle.tables.specs.Accepted.{records, Fine}
-use Rattle.tables.specs.Laws.Accepted.{accepted_fine, operand_lower, height_operand, height-at, fit_least, fit_known, named_count}
+use Rattle.tables.proofs.Laws.Accepted.{accepted_fine, operand_lower, height_operand, height-at, fit_least, fit_known, named_count}
 use Rattle.tables.specs.Reading.{Here, HasField, HasOperand}
 use Rattle.choices.specs.State.{Choices, Invariant}
 use Rattle.operations.specs.Numbers.{Unary}

@@ -20,24 +20,25 @@ use Rattle.tables.specs.Record.{Record, field, name_of as name_of_record, shape,
 use Rattle.tables.specs.Table.{record_at, kind_at}
 use Rattle.tables.specs.Check.{is_of_sort}
 use Rattle.tables.specs.Accepted.{records}
-use Rattle.tables.specs.Laws.Accepted.{fit_least, fit_known, lower, operand_sort}
+use Rattle.tables.proofs.Laws.Accepted.{fit_least, fit_known, lower, operand_sort}
 use Rattle.tables.specs.Reading.{HasField}
 use Rattle.patterns.specs.Read.{Readable, pattern_at}
 use Rattle.patterns.specs.Binding.{is, Binding, nothing, cell_of}
 use Rattle.patterns.specs.Ways.{gather}
-use Rattle.patterns.specs.Laws.Members.{in_gather}
+use Rattle.patterns.proofs.Laws.Members.{in_gather}
 use Rattle.prelude.proofs.Membership.{at_in}
-use Rattle.patterns.specs.Laws.Ordered.{in_sorted}
-use Rattle.patterns.specs.Laws.Named.{holds_named as names_of, Told, told}
+use Rattle.patterns.proofs.Laws.Ordered.{in_sorted}
+use Rattle.patterns.proofs.Laws.Named.{Told, told}
+use Rattle.patterns.specs.Pattern.{holds_named as names_of}
 use Rattle.patterns.specs.Pattern.{Pattern, name, matches}
 use Rattle.patterns.specs.Binder.{bindings}
-use Rattle.patterns.specs.Laws.Forming.{formed_bound}
-use Rattle.patterns.specs.Laws.Matched.{matched}
+use Rattle.patterns.proofs.Laws.Forming.{formed_bound}
+use Rattle.patterns.proofs.Laws.Matched.{matched}
 use Rattle.parts.specs.declared.Part.{Part}
 use Rattle.parts.specs.Part.{PartIs}
 use Rattle.parts.specs.Contract.{Puttable, PutPart}
 use Rattle.parts.proofs.Laws.{part_longer}
-use Rattle.patterns.specs.Laws.Nodes.{is_name, pattern_at_lem}
+use Rattle.patterns.proofs.Laws.Nodes.{is_name, pattern_at_lem}
 use Rattle.calling.specs.Scratch.{Kept}
 use Rattle.calling.proofs.Framing.{kept_outside, kept_then, kept_less, put_kept, copyable_down, copied_kept}
 use Rattle.meaning.specs.State.{value_in, held_value as held}

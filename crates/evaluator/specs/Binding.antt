@@ -1,7 +1,7 @@
 -- What the functions for binders ask and promise: kinds 12 to 20. From the base of a binder on stand: its set, or the value of a let; at 512 the window
 -- of its bindings; at 1,024 what a comprehension builds; at 1,536 what an operand gives under a binding; at 2,048 the value of a map comprehension, when
 -- its key stands at 1,536.
-use Rattle.std.specs.Prelude.{◌≡◌, Bool, true, false, not, cond, ◌⊎◌, List, [], ◌∷◌, ℕ, ◌+◌, ◌-◌, ◌≤◌, ◌<◌, eqb, length, get_or, take}
+use Rattle.std.specs.Prelude.{◌≡◌, Bool, true, false, not, cond, ◌⊎◌, List, [], ◌∷◌, ℕ, ◌+◌, ◌≤◌, ◌<◌, eqb, length, get_or, take}
 use Rattle.std.proofs.Math.Option.{some}
 use Rattle.values.specs.Value.{Kind, Value, kind_of, collection, Items}
 use Rattle.values.specs.Place.{At, ItemsAt}

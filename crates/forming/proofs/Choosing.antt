@@ -12,7 +12,7 @@ use Rattle.values.specs.Value.{Kind, number, collection, kind_of}
 use Rattle.values.specs.Place.{At}
 use Rattle.parts.specs.declared.Part.{Part}
 use Rattle.parts.specs.Part.{PartIs}
-use Rattle.parts.specs.Laws.Chosen.{keep_full, proper_length}
+use Rattle.parts.proofs.Chosen.{keep_full, proper_length}
 use Rattle.parts.specs.Word.{unpacked, WordOf}
 use Rattle.parts.proofs.Laws.{whole_of, part_one, part_well_formed}
 use Rattle.patterns.specs.Ways.{proper_splits}

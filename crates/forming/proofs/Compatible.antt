@@ -12,8 +12,8 @@ use Rattle.patterns.specs.Members.{Alike}
 use Rattle.patterns.specs.Binding.{Cell, free, is, clash, Binding, names, cell_of, merge, consistent, with_each}
 use Rattle.patterns.specs.Pattern.{Pattern, matches, match_each}
 use Rattle.patterns.specs.Relation.{Agree, Joined}
-use Rattle.patterns.specs.Laws.Matched.{in_together, matched, matched_each, match_sized, each_sized, merge_sized, merge_joined}
-use Rattle.patterns.specs.Laws.Together.{together_with, one_together}
+use Rattle.patterns.proofs.Laws.Matched.{in_together, matched, matched_each, match_sized, each_sized, merge_sized, merge_joined}
+use Rattle.patterns.proofs.Laws.Together.{together_with, one_together}
 use Rattle.patterns.specs.Read.{patterns_of}
 use Rattle.forming.specs.Compatible.{Compatible}
 use Rattle.forming.specs.Needs.{Unmatched}

@@ -15,8 +15,8 @@ use Rattle.patterns.specs.Members.{Alike}
 use Rattle.patterns.specs.Binding.{Cell, free, is, clash, Binding, cell_of, names, merge, together}
 use Rattle.patterns.specs.Pattern.{Pattern, matches}
 use Rattle.patterns.specs.Relation.{Agree, Joined}
-use Rattle.patterns.specs.Laws.Matched.{in_together, together_in, joined_merge, merge_joined, matched, match_sized}
-use Rattle.patterns.specs.Laws.Together.{together_assoc}
+use Rattle.patterns.proofs.Laws.Matched.{in_together, together_in, joined_merge, merge_joined, matched, match_sized}
+use Rattle.patterns.proofs.Laws.Together.{together_assoc}
 use Rattle.forming.specs.Inner.{inner}
 use Rattle.forming.specs.Onward.{Task, matches_all, onward}
 use Rattle.forming.specs.Laws.Onward.{alike_same, together_alike}

@@ -23,8 +23,8 @@ use Rattle.patterns.specs.Pattern.{Pattern, name, each, halved, UnitOf, units_of
 use Rattle.patterns.specs.Relation.{Divided, Matches, MatchesEach}
 use Rattle.patterns.specs.Nodes.{collection_of}
 use Rattle.patterns.specs.Read.{Readable, patterns_of, pattern_at}
-use Rattle.patterns.specs.Laws.Collected.{arranged_units, divided_units}
-use Rattle.patterns.specs.Laws.Named.{only_cell, PartOf, shared_left, shared_right, part_in, part_items, arranged_in}
+use Rattle.patterns.proofs.Laws.Collected.{arranged_units, divided_units}
+use Rattle.patterns.proofs.Laws.Named.{only_cell, PartOf, shared_left, shared_right, part_in, part_items, arranged_in}
 use Rattle.matching.specs.Leaf.{Standing}
 use Rattle.matching.specs.Node.{is_split, inner_of}
 use Rattle.matching.proofs.Counting.{split_kind}

@@ -12,7 +12,7 @@ use Rattle.prelude.proofs.Absurd.{true_false, never}
 use Rattle.prelude.proofs.Truth.{by_test}
 use Rattle.prelude.proofs.Lists.{map_at}
 use Rattle.values.specs.Value.{Kind, sequence, Value, collection}
-use Rattle.tables.specs.Laws.Kinds.{union_composed, concatenation_composed, munion_composed}
+use Rattle.tables.proofs.Laws.Kinds.{union_composed, concatenation_composed, munion_composed}
 use Rattle.tables.specs.Record.{Record, is_composed, named as operands_of, operand}
 use Rattle.tables.specs.Table.{record_at, kind_at}
 use Rattle.tables.specs.Accepted.{records}
@@ -21,12 +21,12 @@ use Rattle.patterns.specs.Binding.{Binding, nothing, merge, consistent, with_eac
 use Rattle.patterns.specs.Pattern.{Pattern, any, halved, items_of, list_of, matches, wide}
 use Rattle.patterns.specs.Relation.{Joined, Matches}
 use Rattle.patterns.specs.Wide.{Wide}
-use Rattle.patterns.specs.Laws.Matched.{matched, matching, match_sized, joined_merge, merge_joined, nothing_sized, list_items}
-use Rattle.patterns.specs.Laws.Merging.{nothing_merge, merge_nothing}
-use Rattle.patterns.specs.Laws.Together.{one_together, append-nil, append_assoc, Fine, nothing_fine, match_consistent}
-use Rattle.patterns.specs.Laws.Widened.{wide_exactly}
+use Rattle.patterns.proofs.Laws.Matched.{matched, matching, match_sized, joined_merge, merge_joined, nothing_sized, list_items}
+use Rattle.patterns.proofs.Laws.Merging.{nothing_merge, merge_nothing}
+use Rattle.patterns.proofs.Laws.Together.{one_together, append-nil, append_assoc, Fine, nothing_fine, match_consistent}
+use Rattle.patterns.proofs.Laws.Widened.{wide_exactly}
 use Rattle.patterns.specs.Nodes.{collection_of, is_halved}
-use Rattle.patterns.specs.Laws.Nodes.{is_any, on_composed}
+use Rattle.patterns.proofs.Laws.Nodes.{is_any, on_composed}
 use Rattle.patterns.specs.Read.{Readable, pattern_of, pattern_at}
 use Rattle.matching.specs.Node.{inner_of}
 use Rattle.matching.proofs.Records.{by_record, count_two}

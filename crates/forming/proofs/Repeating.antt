@@ -11,7 +11,7 @@ use Rattle.prelude.specs.Membership.{In}
 use Rattle.prelude.proofs.Truth.{by_lower}
 use Rattle.values.specs.Value.{Value}
 use Rattle.tables.specs.Record.{Record, is_pattern, is_composed, named as operands_of, operand}
-use Rattle.tables.specs.Laws.Through.{EachTo, each_next}
+use Rattle.tables.proofs.Laws.Through.{EachTo, each_next}
 use Rattle.tables.specs.Table.{record_at, kind_at}
 use Rattle.tables.specs.Accepted.{records}
 use Rattle.parts.specs.Part.{CellIs}
@@ -20,13 +20,14 @@ use Rattle.parts.proofs.Laws.{part_one}
 use Rattle.patterns.specs.Binding.{Cell, free, is, Binding, names, nothing, cell_of, merge, consistent, with_each, together}
 use Rattle.patterns.specs.Pattern.{Pattern, matches, match_each}
 use Rattle.patterns.specs.Relation.{Joined}
-use Rattle.patterns.specs.Laws.Members.{gather_in}
-use Rattle.patterns.specs.Laws.Matched.{in_together, together_in, matched, matched_each, match_sized, each_sized, merge_joined}
-use Rattle.patterns.specs.Laws.Named.{holds_named as named, Told, told}
-use Rattle.patterns.specs.Laws.Together.{all_fine, each_consistent, with_nothing, together_nothing, together_with}
-use Rattle.patterns.specs.Laws.Some.{some_halves}
+use Rattle.patterns.proofs.Laws.Members.{gather_in}
+use Rattle.patterns.proofs.Laws.Matched.{in_together, together_in, matched, matched_each, match_sized, each_sized, merge_joined}
+use Rattle.patterns.proofs.Laws.Named.{Told, told}
+use Rattle.patterns.specs.Pattern.{holds_named as named}
+use Rattle.patterns.proofs.Laws.Together.{all_fine, each_consistent, with_nothing, together_nothing, together_with}
+use Rattle.patterns.proofs.Laws.Some.{some_halves}
 use Rattle.patterns.specs.Nodes.{is_halved}
-use Rattle.patterns.specs.Laws.Nodes.{is_any, on_leaf, on_composed}
+use Rattle.patterns.proofs.Laws.Nodes.{is_any, on_leaf, on_composed}
 use Rattle.patterns.specs.Read.{Readable, patterns_of, pattern_of, pattern_at}
 use Rattle.matching.specs.Leaf.{Stands}
 use Rattle.matching.specs.Node.{inner_of, ways_of}

@@ -17,8 +17,8 @@ use Rattle.parts.specs.Word.{unpacked}
 use Rattle.parts.proofs.Laws.{part_well_formed}
 use Rattle.patterns.specs.Ways.{gather}
 use Rattle.patterns.specs.Binding.{Binding}
-use Rattle.patterns.specs.Laws.Members.{in_gather, gather_in}
-use Rattle.patterns.specs.Laws.Together.{append-nil, append_assoc}
+use Rattle.patterns.proofs.Laws.Members.{in_gather, gather_in}
+use Rattle.patterns.proofs.Laws.Together.{append-nil, append_assoc}
 use Rattle.matching.specs.Leaf.{Stands, Grown}
 use Rattle.matching.specs.Node.{inner_of, ways_of, met_by}
 use Rattle.matching.proofs.Naming.{grown_same}

@@ -17,7 +17,7 @@ use Rattle.values.specs.Value.{after}
 use Rattle.parts.specs.Part.{CellIs}
 use Rattle.prelude.proofs.Membership.{at_in}
 use Rattle.patterns.specs.Binding.{free, Binding, names, nothing, cell_of, order_cells, order_bindings, place}
-use Rattle.patterns.specs.Laws.Ordered.{Rising, before_in, bindings_same, bindings_lower, higher_lower, sorted_rising}
+use Rattle.patterns.proofs.Laws.Ordered.{Rising, before_in, bindings_same, bindings_lower, higher_lower, sorted_rising}
 use Rattle.matching.specs.Leaf.{Stands, Standing}
 use Rattle.parts.specs.Word.{unpacked, WordHeld, OrderedWords}
 use Rattle.forming.specs.declared.rows.Seek.{Seek}

@@ -16,27 +16,29 @@ use Rattle.prelude.proofs.Membership.{in_one}
 use Rattle.values.specs.Value.{Value}
 use Rattle.values.specs.Items.{same}
 use Rattle.tables.specs.Record.{Record, is_pattern, is_composed, named as operands_of, operand, name_of}
-use Rattle.tables.specs.Laws.Kinds.{name_bare}
-use Rattle.tables.specs.Laws.Through.{EachTo, each_next}
+use Rattle.tables.proofs.Laws.Kinds.{name_bare}
+use Rattle.tables.proofs.Laws.Through.{EachTo, each_next}
 use Rattle.tables.specs.Table.{record_at, kind_at}
 use Rattle.tables.specs.Accepted.{records}
 use Rattle.parts.specs.Part.{PartIs}
 use Rattle.parts.specs.Word.{unpacked}
 use Rattle.patterns.specs.Binding.{Cell, free, is, clash, Binding, names, cell_of, agree, merge, consistent, with_each, together}
 use Rattle.patterns.specs.Pattern.{Pattern, name, any, matches}
-use Rattle.patterns.specs.Laws.Named.{holds_named as named, named_each, Told, told}
-use Rattle.patterns.specs.Laws.Matched.{in_together, together_in, matched, match_sized, merge_sized}
+use Rattle.patterns.proofs.Laws.Named.{Told, told}
+use Rattle.patterns.specs.Pattern.{named_each}
+use Rattle.patterns.specs.Pattern.{holds_named as named}
+use Rattle.patterns.proofs.Laws.Matched.{in_together, together_in, matched, match_sized, merge_sized}
 use Rattle.prelude.proofs.Absurd.{true_false}
-use Rattle.patterns.specs.Laws.Together.{one_together}
+use Rattle.patterns.proofs.Laws.Together.{one_together}
 use Rattle.patterns.specs.Nodes.{is_halved}
-use Rattle.patterns.specs.Laws.Nodes.{is_name, on_leaf, on_composed}
-use Rattle.patterns.specs.Laws.Some.{some_halves}
+use Rattle.patterns.proofs.Laws.Nodes.{is_name, on_leaf, on_composed}
+use Rattle.patterns.proofs.Laws.Some.{some_halves}
 use Rattle.patterns.specs.Read.{Readable, patterns_of, pattern_of, pattern_at}
 use Rattle.matching.specs.Leaf.{Stands}
 use Rattle.matching.specs.Node.{inner_of}
 use Rattle.matching.proofs.Records.{by_record, inner_length, count_two, name_small, no_part}
 use Rattle.matching.proofs.Naming.{merge_cell, consistent_at}
-use Rattle.patterns.specs.Laws.Merging.{agree_free}
+use Rattle.patterns.proofs.Laws.Merging.{agree_free}
 use Rattle.forming.specs.Settled.{Settled, TellsSettled, HasWord}
 use Rattle.forming.specs.Onward.{Task, task, matches_all, onward, zipped}
 use Rattle.forming.specs.Laws.Onward.{onward_first}

@@ -21,17 +21,17 @@ use Rattle.parts.specs.Part.{PartIs, PartHeld}
 use Rattle.parts.specs.Word.{unpacked}
 use Rattle.parts.specs.Contract.{KindOfPart, CountOfPart}
 use Rattle.parts.specs.Chosen.{split_at}
-use Rattle.parts.specs.Laws.Chosen.{proper_length, cuts_length, nth_proper, nth_cut}
-use Rattle.patterns.specs.Laws.Units.{shared_length}
-use Rattle.patterns.specs.Laws.Collected.{units_items}
+use Rattle.parts.proofs.Chosen.{proper_length, cuts_length, nth_proper, nth_cut}
+use Rattle.patterns.proofs.Laws.Units.{shared_length}
+use Rattle.patterns.proofs.Laws.Collected.{units_items}
 use Rattle.patterns.specs.Ways.{Halves, halves, proper_splits}
 use Rattle.patterns.specs.Binding.{is, Binding, names, cell_of}
 use Rattle.patterns.specs.Pattern.{Pattern, name, each, halved, items_of, entries_of, UnitOf, units_of, items_in, halves_in, is_unordered, divisions}
 use Rattle.patterns.specs.Relation.{Divided, Matches}
 use Rattle.prelude.proofs.Absurd.{true_false}
 use Rattle.patterns.specs.Nodes.{collection_of, width}
-use Rattle.patterns.specs.Laws.Named.{only_cell}
-use Rattle.patterns.specs.Laws.Nodes.{parts_length}
+use Rattle.patterns.proofs.Laws.Named.{only_cell}
+use Rattle.patterns.proofs.Laws.Nodes.{parts_length}
 use Rattle.patterns.specs.Read.{Readable, patterns_of, pattern_of, pattern_at}
 use Rattle.matching.specs.Leaf.{Stands, Standing}
 use Rattle.matching.specs.Node.{inner_of}

@@ -16,9 +16,9 @@ use Rattle.patterns.specs.Ways.{Halves, halves, gather}
 use Rattle.patterns.specs.Binding.{Binding, names}
 use Rattle.patterns.specs.Pattern.{Pattern, any, contents, UnitOf, halves_in, divisions, split, left_of, right_of, match_each}
 use Rattle.patterns.specs.Relation.{Matches}
-use Rattle.patterns.specs.Laws.Matched.{in_divisions, matched_each}
+use Rattle.patterns.proofs.Laws.Matched.{in_divisions, matched_each}
 use Rattle.patterns.specs.Nodes.{collection_of, both_halves, meetings}
-use Rattle.patterns.specs.Laws.Nodes.{two_of}
+use Rattle.patterns.proofs.Laws.Nodes.{two_of}
 use Rattle.patterns.specs.Read.{Readable, patterns_of, pattern_at}
 use Rattle.matching.specs.Node.{inner_of, ways_of, met_by}
 use Rattle.matching.proofs.Records.{inner_length}

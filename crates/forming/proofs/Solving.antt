@@ -22,7 +22,7 @@ use Rattle.patterns.specs.Ways.{gather, orders, at_every_place}
 use Rattle.patterns.specs.Binding.{Binding}
 use Rattle.patterns.specs.Pattern.{Pattern, any, contents, entries_of, arrangements, met, split}
 use Rattle.patterns.specs.Read.{patterns_of, pattern_of, pattern_at}
-use Rattle.patterns.specs.Laws.Nodes.{on_composed}
+use Rattle.patterns.proofs.Laws.Nodes.{on_composed}
 use Rattle.patterns.specs.Nodes.{collection_of, is_halved, both_halves, meetings}
 use Rattle.matching.specs.declared.nodes.Meeting.{Meeting}
 use Rattle.matching.specs.Leaf.{Stands}

@@ -20,7 +20,7 @@ use Rattle.patterns.specs.Ways.{gather}
 use Rattle.patterns.specs.Members.{Alike}
 use Rattle.patterns.specs.Binding.{Binding, place}
 use Rattle.patterns.specs.Pattern.{wide}
-use Rattle.patterns.specs.Laws.Ordered.{sorted_in, in_sorted}
+use Rattle.patterns.proofs.Laws.Ordered.{sorted_in, in_sorted}
 use Rattle.patterns.specs.Nodes.{is_large}
 use Rattle.patterns.specs.Read.{pattern_at}
 use Rattle.matching.specs.declared.nodes.Meeting.{Meeting}

@@ -5,7 +5,7 @@ use Rattle.tables.specs.Table.{record_at, kind_at}
 use Rattle.tables.specs.Accepted.{records}
 use Rattle.patterns.specs.Binding.{names}
 use Rattle.patterns.specs.Pattern.{Pattern}
-use Rattle.patterns.specs.Laws.Named.{holds_named as named}
+use Rattle.patterns.specs.Pattern.{holds_named as named}
 use Rattle.patterns.specs.Read.{pattern_at}
 
 -- Each name of the pattern has a word.

@@ -22,14 +22,15 @@ use Rattle.parts.specs.Part.{PartIs, PartHeld}
 use Rattle.parts.specs.Contract.{KindOfPart, CollectionHeld, CountOfPart}
 use Rattle.parts.specs.Mask.{Full, WidthOf}
 use Rattle.parts.proofs.Laws.{part_well_formed}
-use Rattle.parts.specs.Laws.Chosen.{proper_none, proper_length, cuts_length}
+use Rattle.parts.proofs.Chosen.{proper_none, proper_length, cuts_length}
 use Rattle.patterns.specs.Ways.{Halves, proper_splits, cuts, orders}
 use Rattle.patterns.specs.Pattern.{list_of, items_of, contents, UnitOf, units_of, items_in, halves_in, is_unordered, arrangements, divisions, most_split, is_too_large}
-use Rattle.patterns.specs.Laws.Matched.{items_list, list_items}
-use Rattle.patterns.specs.Laws.Collected.{units_items, items_units, items_length, arrangements_units, divisions_units}
-use Rattle.patterns.specs.Laws.Plain.{count_list}
+use Rattle.patterns.proofs.Laws.Matched.{items_list, list_items}
+use Rattle.patterns.proofs.Laws.Collected.{units_items, items_units, items_length, arrangements_units, divisions_units}
+use Rattle.patterns.proofs.Laws.Plain.{count_list}
 use Rattle.patterns.specs.Nodes.{collection_of, width, is_halved, meetings, is_large, both_halves}
-use Rattle.patterns.specs.Laws.Orders.{factorial, orders_length}
+use Rattle.patterns.proofs.Laws.Orders.{orders_length}
+use Rattle.patterns.specs.Ways.{factorial}
 use Rattle.matching.specs.declared.nodes.Meeting.{Meeting}
 use Rattle.matching.specs.declared.nodes.Meeting.TheVariants.{Unfit, Large, Ways}
 use Rattle.matching.specs.Node.{is_split, is_paired, SplitsAs, MeetsAs, Meets}

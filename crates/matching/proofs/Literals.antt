@@ -23,8 +23,8 @@ use Rattle.values.specs.Contract.{OfKind}
 use Rattle.tables.specs.Record.{field, boolean_of, integer_of, quote_of, head_of, size, shape}
 use Rattle.tables.specs.Table.{record_at, kind_at}
 use Rattle.tables.specs.Accepted.{records}
-use Rattle.tables.specs.Laws.Accepted.{lower, fit_least}
-use Rattle.tables.specs.Laws.Below.{OperandsLower as Lower}
+use Rattle.tables.proofs.Laws.Accepted.{lower, fit_least}
+use Rattle.tables.proofs.Laws.Below.{OperandsLower as Lower}
 use Rattle.tables.specs.Reading.{HasField}
 use Rattle.parts.specs.declared.Part.{Part}
 use Rattle.parts.specs.Part.{PartIs, PartHeld}
@@ -32,7 +32,7 @@ use Rattle.parts.specs.Contract.{KindOfPart}
 use Rattle.parts.proofs.Laws.{whole_of}
 use Rattle.patterns.specs.Pattern.{literal}
 use Rattle.patterns.specs.Read.{pattern_of, pattern_at}
-use Rattle.patterns.specs.Laws.Nodes.{pattern_at_lem, is_boolean_literal, is_integer_literal, is_quote_literal}
+use Rattle.patterns.proofs.Laws.Nodes.{pattern_at_lem, is_boolean_literal, is_integer_literal, is_quote_literal}
 use Rattle.matching.specs.Node.{LiteralHeld, LiteralIs, inner_of}
 
 outside : {k : ℕ} (l : Kind) → (k < 3) ⊎ (6 < k) → k ≡ number l → ⊥

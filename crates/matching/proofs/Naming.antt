@@ -22,11 +22,11 @@ use Rattle.parts.specs.Word.{unpacked, WordHeld, OrderedWords}
 use Rattle.patterns.specs.Members.{Alike}
 use Rattle.patterns.specs.Binding.{Cell, free, is, clash, Binding, names, nothing, only, cell_of, agree, merge, consistent, with_each, order_cells}
 use Rattle.patterns.specs.Pattern.{Pattern, name, any, literal, matches}
-use Rattle.patterns.specs.Laws.Matched.{merge_sized, only_sized}
-use Rattle.patterns.specs.Laws.Merging.{agree_free}
+use Rattle.patterns.proofs.Laws.Matched.{merge_sized, only_sized}
+use Rattle.patterns.proofs.Laws.Merging.{agree_free}
 use Rattle.prelude.proofs.Absurd.{true_false}
-use Rattle.patterns.specs.Laws.Together.{Fine, with_only}
-use Rattle.patterns.specs.Laws.Nodes.{is_name, is_any}
+use Rattle.patterns.proofs.Laws.Together.{Fine, with_only}
+use Rattle.patterns.proofs.Laws.Nodes.{is_name, is_any}
 use Rattle.patterns.specs.Read.{Readable, pattern_at}
 use Rattle.matching.specs.Leaf.{Stands, Standing, Went, Grown, Named, LeafTold}
 use Rattle.matching.specs.Node.{LiteralHeld, LiteralIs, inner_of}

@@ -22,12 +22,13 @@ use Rattle.parts.specs.Part.{PartIs}
 use Rattle.parts.specs.Contract.{ItemHeld, ItemOfPart, HalvesAre, UnitsHere, SplitHeld, SplitOf, CutHeld, CutOf}
 use Rattle.parts.proofs.Laws.{part_one, part_well_formed}
 use Rattle.parts.specs.Chosen.{split_at}
-use Rattle.parts.specs.Laws.Chosen.{proper_length, nth_split, nth_proper, cuts_length}
+use Rattle.parts.proofs.Chosen.{proper_length, nth_split, nth_proper, cuts_length}
 use Rattle.patterns.specs.Ways.{Halves as Split, halves, splits, proper_splits, cuts, orders}
 use Rattle.patterns.specs.Pattern.{items_of, UnitOf, items_in, halves_in, is_unordered}
-use Rattle.patterns.specs.Laws.Collected.{items_length}
+use Rattle.patterns.proofs.Laws.Collected.{items_length}
 use Rattle.patterns.specs.Nodes.{collection_of, width, is_halved, meetings, both_halves}
-use Rattle.patterns.specs.Laws.Orders.{factorial, order_length, orders_length}
+use Rattle.patterns.proofs.Laws.Orders.{order_length, orders_length}
+use Rattle.patterns.specs.Ways.{factorial}
 use Rattle.matching.specs.Node.{is_split, is_paired, Ordinal, PieceHeld, PieceOf}
 use Rattle.matching.proofs.Placing.{same_item}
 use Rattle.matching.proofs.Counting.{pick_true, split_kind, in_turn, Has, few_items, width_range, units_count, four_units, contents_other, contents_same, none_meets, meets_each, meets_splits, meets_cuts, meets_orders}

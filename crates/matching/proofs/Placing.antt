@@ -10,7 +10,8 @@ use Rattle.values.specs.Entries.{Entry, flat}
 use Rattle.patterns.specs.Ways.{orders}
 use Rattle.patterns.specs.Pattern.{list_of, UnitOf, items_in}
 use Rattle.patterns.specs.Nodes.{width}
-use Rattle.patterns.specs.Laws.Orders.{factorial, factorial_more, order_here, order_before, order_after}
+use Rattle.patterns.proofs.Laws.Orders.{factorial_more, order_here, order_before, order_after}
+use Rattle.patterns.specs.Ways.{factorial}
 use Rattle.matching.specs.Node.{Ordinal}
 
 -- ---- the numbers of orders

@@ -11,27 +11,27 @@ use lib.Dec.{eqb, leb}
 use lib.ListN.{length, get_or, length-map}
 use borrow.Author.Tests.{leb-true, eqb-true}
 use Rattle.values.specs.Value.{Kind, number, Value, kind_of, WellFormed}
-use Rattle.tables.specs.Laws.Kinds.{by_composed, by_leaf}
+use Rattle.tables.proofs.Laws.Kinds.{by_composed, by_leaf}
 use Rattle.tables.specs.Record.{Record, is_composed, named, operand, name_of, shape, head_of, size, is_known}
 use Rattle.tables.specs.Table.{record_at, kind_at}
 use Rattle.tables.specs.Accepted.{records}
-use Rattle.tables.specs.Laws.Accepted.{lower, pattern_role, operand_lower, operand_sort, named_count, fit_least, fit_most, fit_known}
-use Rattle.tables.specs.Laws.Through.{EachTo}
-use Rattle.tables.specs.Laws.Below.{OperandsLower as Lower}
+use Rattle.tables.proofs.Laws.Accepted.{lower, pattern_role, operand_lower, operand_sort, named_count, fit_least, fit_most, fit_known}
+use Rattle.tables.proofs.Laws.Through.{EachTo}
+use Rattle.tables.proofs.Laws.Below.{OperandsLower as Lower}
 use Rattle.tables.specs.Reading.{HasField, HasOperand}
 use Rattle.parts.specs.declared.Part.{Part}
 use Rattle.patterns.specs.Ways.{Halves, orders}
 use Rattle.prelude.proofs.Lists.{map_at}
 use Rattle.prelude.proofs.Membership.{at_in}
 use Rattle.patterns.specs.Pattern.{Pattern, any, literal, Patterns, nil, cons, UnitOf, items_in, is_unordered, arrangements, contents, met, split}
-use Rattle.patterns.specs.Laws.Collected.{items_length, arrangements_units}
+use Rattle.patterns.proofs.Laws.Collected.{items_length, arrangements_units}
 use Rattle.prelude.proofs.Absurd.{true_false}
 use Rattle.prelude.proofs.Truth.{by_test}
-use Rattle.patterns.specs.Laws.Orders.{order_length}
+use Rattle.patterns.proofs.Laws.Orders.{order_length}
 use Rattle.patterns.specs.Read.{Readable, patterns_of, pattern_of, pattern_at}
-use Rattle.patterns.specs.Laws.Some.{some_at, some-none}
+use Rattle.patterns.proofs.Laws.Some.{some_at, some-none}
 use Rattle.patterns.specs.Nodes.{collection_of, width, is_halved, meetings, both_halves}
-use Rattle.patterns.specs.Laws.Nodes.{is_boolean_literal, is_integer_literal, is_quote_literal, pattern_at_lem}
+use Rattle.patterns.proofs.Laws.Nodes.{is_boolean_literal, is_integer_literal, is_quote_literal, pattern_at_lem}
 use Rattle.matching.specs.declared.nodes.Meeting.{Meeting}
 use Rattle.matching.specs.Node.{LiteralHeld, Meets, inner_of}
 use Rattle.matching.proofs.Counting.{contents_other, contents_same, width_range, in_turn}

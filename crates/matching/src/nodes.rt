@@ -4,7 +4,7 @@ ghost use Rattle.parts.specs.Part.{PartHeld};
 ghost use Rattle.values.specs.Value.{number};
 ghost use Rattle.tables.specs.Record.{is_composed};
 ghost use Rattle.patterns.specs.Nodes.{collection_of, width};
-ghost use Rattle.patterns.specs.Laws.Orders.{factorial};
+ghost use Rattle.patterns.specs.Ways.{factorial};
 ghost use Rattle.matching.specs.Node.{Ordinal, is_split, is_paired, SplitsAs, Meets, PieceHeld, PieceOf, LiteralHeld, LiteralIs};
 
 use parts::Part;

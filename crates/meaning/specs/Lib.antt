@@ -11,8 +11,6 @@ pub mod Service
 pub mod Lent
 pub mod Calls
 pub mod Reaches
-pub mod Agreement
 pub mod Demand
 pub mod Unreached
 pub mod Kinds
-pub mod Laws

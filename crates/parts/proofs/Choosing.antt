@@ -11,7 +11,7 @@ use Rattle.patterns.specs.Ways.{to_left, to_right}
 use Rattle.patterns.specs.Pattern.{UnitOf}
 use Rattle.parts.specs.declared.masks.Dealing.{Dealing}
 use Rattle.parts.specs.Chosen.{keep, split_at}
-use Rattle.parts.specs.Laws.Chosen.{keep_zero, keep_none, keep_odd, keep_even}
+use Rattle.parts.proofs.Chosen.{keep_zero, keep_none, keep_odd, keep_even}
 use Rattle.parts.specs.Mask.{Full, Dealt, Deals, Spread}
 
 -- ---- all ones

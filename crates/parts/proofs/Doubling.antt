@@ -11,13 +11,13 @@ use lib.ListN.{length}
 use borrow.Author.Tests.{eqb-true}
 use Rattle.prelude.proofs.Absurd.{true_false}
 use Rattle.tables.specs.Sheet.{any}
-use Rattle.tables.specs.Laws.Tests.{each}
+use Rattle.tables.proofs.Laws.Tests.{each}
 use Rattle.values.specs.Value.{Kind, set, sequence, map as mapping, tuple, number, Value}
 use Rattle.values.specs.Entries.{Entry, flat}
 use Rattle.patterns.specs.Pattern.{list_of, UnitOf, is_unordered}
-use Rattle.patterns.specs.Laws.Collected.{items_length}
+use Rattle.patterns.proofs.Laws.Collected.{items_length}
 use Rattle.parts.specs.Chosen.{keep}
-use Rattle.parts.specs.Laws.Chosen.{power_pos, keep_zero, keep_none, keep_odd, keep_even}
+use Rattle.parts.proofs.Chosen.{power_pos, keep_zero, keep_none, keep_odd, keep_even}
 use Rattle.parts.specs.Mask.{WidthOf, ChoosesItems, ItemMask, doubled}
 
 -- ---- the number of items of a unit

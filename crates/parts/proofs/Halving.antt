@@ -16,11 +16,11 @@ use Rattle.values.proofs.Records.{parted}
 use Rattle.patterns.specs.Ways.{Halves as Split, halves, splits, cuts}
 use Rattle.patterns.specs.Pattern.{items_of, UnitOf, items_in, halves_in, is_unordered, left_of, right_of}
 use Rattle.patterns.specs.Nodes.{width}
-use Rattle.patterns.specs.Laws.Collected.{items_length}
+use Rattle.patterns.proofs.Laws.Collected.{items_length}
 use Rattle.parts.specs.declared.Part.{Part}
 use Rattle.parts.specs.declared.runs.Run.{Run}
 use Rattle.parts.specs.Chosen.{every_one, keep, chosen, split_at}
-use Rattle.parts.specs.Laws.Chosen.{chosen_all, keep_full, nth_split, nth_cut}
+use Rattle.parts.proofs.Chosen.{chosen_all, keep_full, nth_split, nth_cut}
 use Rattle.parts.specs.Mask.{Full, Spread, WidthOf}
 use Rattle.parts.specs.Part.{Selects, PartIs, PartHeld}
 use Rattle.parts.proofs.Laws.{selects_of, selects_low, part_one, part_well_formed, one_collection, one_units, end_record}

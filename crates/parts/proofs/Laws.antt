@@ -17,9 +17,9 @@ use Rattle.values.proofs.Order.{number_low, number_high, number_inj}
 use Rattle.values.proofs.Records.{is_collection, one_value, one_list, word_size, well_formed_collection}
 use Rattle.values.proofs.Frame.{kept, items_kept, word_kept}
 use Rattle.patterns.specs.Pattern.{list_of, items_of, UnitOf, units_of, items_in}
-use Rattle.patterns.specs.Laws.Collected.{units_items}
-use Rattle.patterns.specs.Laws.Matched.{items_list, list_items}
-use Rattle.patterns.specs.Laws.Named.{PartOf, divides, part_fine}
+use Rattle.patterns.proofs.Laws.Collected.{units_items}
+use Rattle.patterns.proofs.Laws.Matched.{items_list, list_items}
+use Rattle.patterns.proofs.Laws.Named.{PartOf, divides, part_fine}
 use Rattle.parts.specs.declared.Part.{Part}
 use Rattle.parts.specs.Chosen.{odd, keep}
 use Rattle.parts.specs.Part.{Selects, Spans, PartIs, PartHeld, end_of}

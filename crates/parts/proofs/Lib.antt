@@ -10,3 +10,4 @@ pub mod Packing
 pub mod Masking
 mod Ordering
 pub mod Laws
+pub mod Chosen

@@ -23,11 +23,11 @@ use Rattle.values.proofs.Order.{order_refl, items_refl, lower_flip}
 use Rattle.values.proofs.Records.{collection_shaped, one_value}
 use Rattle.patterns.specs.Pattern.{list_of, items_of, UnitOf, items_in, is_unordered}
 use Rattle.patterns.specs.Binding.{Cell, is, order_cells}
-use Rattle.patterns.specs.Laws.Plain.{cell_refl}
-use Rattle.patterns.specs.Laws.Collected.{first_of, Led, led_first, shaped_led}
+use Rattle.patterns.proofs.Laws.Plain.{cell_refl}
+use Rattle.patterns.proofs.Laws.Collected.{first_of, Led, led_first, shaped_led}
 use Rattle.parts.specs.declared.Part.{Part}
 use Rattle.parts.specs.Chosen.{keep}
-use Rattle.parts.specs.Laws.Chosen.{keep_zero, keep_none, keep_odd, keep_even}
+use Rattle.parts.proofs.Chosen.{keep_zero, keep_none, keep_odd, keep_even}
 use Rattle.parts.specs.Mask.{OrderedMasks}
 use Rattle.parts.specs.Part.{Selects, PartIs, PartHeld, CellIs}
 use Rattle.parts.specs.Contract.{OrderedParts}

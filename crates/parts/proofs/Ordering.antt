@@ -16,7 +16,7 @@ use Rattle.values.proofs.Records.{holds, items-of, word_size}
 use Rattle.patterns.specs.Pattern.{items_of, items_in}
 use Rattle.parts.specs.declared.Part.{Part}
 use Rattle.parts.specs.Chosen.{keep}
-use Rattle.parts.specs.Laws.Chosen.{keep_zero, keep_odd, keep_even}
+use Rattle.parts.proofs.Chosen.{keep_zero, keep_odd, keep_even}
 use Rattle.parts.specs.Choice.{ChoiceIs, ChoiceHeld, OrderedChoices}
 use Rattle.parts.specs.Mask.{ItemMask}
 use Rattle.parts.specs.Part.{PartIs, PartHeld}

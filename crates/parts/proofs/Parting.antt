@@ -23,11 +23,11 @@ use Rattle.values.proofs.Order.{order_refl, same_equal}
 use Rattle.values.proofs.Records.{holds, items_to}
 use Rattle.patterns.specs.Pattern.{items_of, items_in}
 use Rattle.patterns.specs.Nodes.{width}
-use Rattle.patterns.specs.Laws.Collected.{items_length}
+use Rattle.patterns.proofs.Laws.Collected.{items_length}
 use Rattle.parts.specs.declared.Part.{Part}
 use Rattle.parts.specs.declared.runs.Run.{Run}
 use Rattle.parts.specs.Chosen.{every_one, keep}
-use Rattle.parts.specs.Laws.Chosen.{kept_length, chosen_all, chosen_keep}
+use Rattle.parts.proofs.Chosen.{kept_length, chosen_all, chosen_keep}
 use Rattle.parts.specs.Mask.{WidthOf, ChoosesItems, ItemMask}
 use Rattle.parts.specs.Part.{PartIs, PartHeld, end_of}
 use Rattle.parts.proofs.Laws.{of_kind, whole_of, selects_of, selects_low, spans_of, part_one, one_collection, end_span, end_record, whole_here}

@@ -19,7 +19,7 @@ use Rattle.values.proofs.Records.{holds, word_size, no_items, one_more, collecti
 use Rattle.values.proofs.Frame.{items_below, outside_none, outside_then, word_below}
 use Rattle.values.proofs.Written.{headed_collection}
 use Rattle.patterns.specs.Pattern.{items_of, items_in}
-use Rattle.patterns.specs.Laws.Named.{part_sizes}
+use Rattle.patterns.proofs.Laws.Named.{part_sizes}
 use Rattle.parts.specs.declared.Part.{Part}
 use Rattle.parts.specs.declared.runs.Run.{Run}
 use Rattle.parts.specs.Chosen.{every_one, keep, chosen}

@@ -15,10 +15,10 @@ use Rattle.values.specs.Place.{At, ItemsAt}
 use Rattle.values.proofs.Encoding.{size_low}
 use Rattle.values.proofs.Records.{first-of, items_none, one_list, word_size}
 use Rattle.patterns.specs.Pattern.{list_of, items_of}
-use Rattle.patterns.specs.Laws.Matched.{list_items}
+use Rattle.patterns.proofs.Laws.Matched.{list_items}
 use Rattle.parts.specs.declared.runs.Run.{Run}
 use Rattle.parts.specs.Chosen.{every_one, chosen}
-use Rattle.parts.specs.Laws.Chosen.{keep_odd, keep_even, chosen_all, chosen_keep, chosen_none}
+use Rattle.parts.proofs.Chosen.{keep_odd, keep_even, chosen_all, chosen_keep, chosen_none}
 use Rattle.parts.specs.Run.{Ready, RunIs, RunHeld, MoreHeld, Startable, ReadyRun, RestOf, CountOf, SkipHeld, Skipped}
 
 -- ---- lists of values whose records stand between two places

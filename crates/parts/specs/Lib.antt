@@ -6,4 +6,3 @@ pub mod Part
 pub mod Word
 pub mod Run
 pub mod Contract
-pub mod Laws

@@ -10,4 +10,3 @@ pub mod Relation
 pub mod Wide
 pub mod Read
 pub mod Nodes
-pub mod Laws

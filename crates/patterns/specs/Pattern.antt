@@ -162,3 +162,17 @@ unfoldable mutual
   pub loose_each : Patterns → Bool
   loose_each nil = false
   loose_each (cons p ps) = loose p || loose_each ps
+
+-- ---- the names of a pattern
+
+unfoldable mutual
+  pub holds_named : Pattern → ℕ → Bool
+  holds_named (name x) y = eqb x y
+  holds_named any y = false
+  holds_named (literal w) y = false
+  holds_named (each k ps) y = named_each ps y
+  holds_named (halved k p q) y = holds_named p y || holds_named q y
+
+  pub named_each : Patterns → ℕ → Bool
+  named_each nil y = false
+  named_each (cons p ps) y = holds_named p y || named_each ps y

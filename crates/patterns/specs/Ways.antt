@@ -1,5 +1,5 @@
 -- The ways to take units apart, for units of any type: members of a set, items of a sequence, entries of a map.
-use Rattle.std.specs.Prelude.{Bool, true, false, ◌&&◌, ◌||◌, cond, List, [], ◌∷◌, ◌++◌, map}
+use Rattle.std.specs.Prelude.{Bool, true, false, ◌&&◌, ◌||◌, cond, List, [], ◌∷◌, ◌++◌, map, ℕ, zero, suc, ◌*◌}
 
 -- What f gives for each, one after the other.
 unfoldable pub gather : {A B : Type 0} → List A → (A → List B) → List B
@@ -61,3 +61,8 @@ at_every_place x (y ∷ ys) = (x ∷ y ∷ ys) ∷ map (λ zs. y ∷ zs) (at_eve
 unfoldable pub orders : {A : Type 0} → List A → List (List A)
 orders [] = [] ∷ []
 orders (x ∷ xs) = gather (orders xs) (at_every_place x)
+
+-- How many orders so many units have.
+unfoldable pub factorial : ℕ → ℕ
+factorial zero = 1
+factorial (suc n) = factorial n * suc n

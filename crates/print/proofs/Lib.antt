@@ -8,3 +8,4 @@ mod Items
 mod Listing
 mod Wording
 pub mod Lines
+pub mod Whole

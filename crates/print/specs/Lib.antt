@@ -3,4 +3,3 @@ pub mod Ascii
 pub mod Text
 pub mod Print
 pub mod Contract
-pub mod Laws

@@ -7,7 +7,7 @@ use lib.ListN.{length, drop, length-append, drop_of_length-le, take-append-drop}
 use lib.Seq.{drop-drop}
 use Rattle.tables.specs.Check.{most_bytes}
 use Rattle.print.specs.Print.{print_of}
-use Rattle.print.specs.Laws.Whole.{print_long}
+use Rattle.print.proofs.Whole.{print_long}
 use Rattle.printing.specs.Pieces.{Pieces, together}
 
 pieces_from : (table : List ℕ) (sent : ℕ) (pieces : List (List ℕ)) → Pieces table sent pieces → together pieces ≡ drop sent (print_of table)

@@ -15,7 +15,7 @@ use Rattle.meaning.specs.Service.{tree, runs}
 use Rattle.print.specs.Text.{line}
 use Rattle.print.specs.Print.{most_lines, first_line, end_line, cut_line, lines, last_line}
 use Rattle.print.specs.Contract.{Wrote, short_line}
-use Rattle.print.specs.Laws.Whole.{last_cut, last_end}
+use Rattle.print.proofs.Whole.{last_cut, last_end}
 use Rattle.print.proofs.Writing.{wrote_length}
 use Rattle.print.proofs.Decimals.{decimal_any}
 use Rattle.printing.specs.declared.Progress.{Progress}

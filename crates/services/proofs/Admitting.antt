@@ -14,7 +14,7 @@ use Rattle.tables.specs.declared.Checked.TheVariants.{Accepted, Refused}
 use Rattle.tables.specs.Check.{check}
 use Rattle.meaning.specs.Service.{scratch_bytes, unless, accepted}
 use Rattle.meaning.specs.Lent.{is_early}
-use Rattle.meaning.specs.Laws.ReadBack.{SmallCheck, small_check}
+use Rattle.meaning.proofs.Laws.ReadBack.{SmallCheck, small_check}
 use Rattle.services.specs.Left.{admits}
 
 pub not_accepted : {X : Type 0} {n p m : ℕ} → Refused n p ≡ Accepted m → X

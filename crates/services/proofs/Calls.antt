@@ -24,8 +24,8 @@ use Rattle.meaning.specs.Answer.{pack, packed, uncounted}
 use Rattle.meaning.specs.Walk.{Walk, walk_list as listed, overwritten}
 use Rattle.meaning.specs.Service.{scratch_bytes, tree, runs, evaluates, firsts, steps, onward, stepped_from}
 use Rattle.meaning.specs.Lent.{zeroed, filled_up as filled, is_early, AfterWalk, after_check, after_walk, after_evaluate, walk_after, result_after, check_call, evaluate_call, first_call, step_call}
-use Rattle.meaning.specs.Laws.ReadBack.{fits_evaluate, Late, first_late, step_late}
-use Rattle.meaning.specs.Laws.Services.{firsts_10, firsts_granted, steps_10, steps_long, steps_run}
+use Rattle.meaning.proofs.Laws.ReadBack.{fits_evaluate, Late, first_late, step_late}
+use Rattle.meaning.proofs.Laws.Services.{firsts_10, firsts_granted, steps_10, steps_long, steps_run}
 use Rattle.walks.specs.declared.Stepped.{Stepped}
 use Rattle.evaluator.specs.declared.Outcome.{Outcome}
 use Rattle.evaluator.specs.declared.Outcome.TheVariants.{Value as HasValue, Refused}

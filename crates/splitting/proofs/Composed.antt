@@ -11,13 +11,13 @@ use mathlib.Mathlib.Data.Bool.Basic.{and_elim_left, and_elim_right}
 use Rattle.prelude.proofs.Absurd.{never}
 use Rattle.prelude.proofs.Truth.{by_test, or_false_left, or_false_right, or_false_both}
 use Rattle.tables.specs.Record.{Record, is_pattern, is_composed}
-use Rattle.tables.specs.Laws.Kinds.{by_composed, union_composed, munion_composed}
+use Rattle.tables.proofs.Laws.Kinds.{by_composed, union_composed, munion_composed}
 use Rattle.patterns.specs.Ways.{exists}
 use Rattle.patterns.specs.Pattern.{Pattern, any, each, halved, contents, met, split, left_of, right_of, wide, wide_each, is_too_large, is_unordered}
 use Rattle.patterns.specs.Read.{patterns_of, pattern_of}
 use Rattle.patterns.specs.Nodes.{collection_of, is_halved, meetings, is_large, both_halves}
-use Rattle.patterns.specs.Laws.Nodes.{parts_length, on_leaf, on_composed}
-use Rattle.patterns.specs.Laws.Some.{some_halves}
+use Rattle.patterns.proofs.Laws.Nodes.{parts_length, on_leaf, on_composed}
+use Rattle.patterns.proofs.Laws.Some.{some_halves}
 use Rattle.matching.specs.Node.{is_split}
 use Rattle.matching.proofs.Counting.{either, split_kind}
 use Rattle.splitting.specs.Laws.Split.{halves_narrow, shallow_narrow}

@@ -13,8 +13,8 @@ use Rattle.values.specs.Value.{Value, boolean}
 use Rattle.tables.specs.Record.{is_composed, named, operand}
 use Rattle.tables.specs.Table.{record_at, kind_at}
 use Rattle.tables.specs.Accepted.{records}
-use Rattle.tables.specs.Laws.Through.{EachTo, each_start, each_next}
-use Rattle.tables.specs.Laws.Accepted.{lower}
+use Rattle.tables.proofs.Laws.Through.{EachTo, each_start, each_next}
+use Rattle.tables.proofs.Laws.Accepted.{lower}
 use Rattle.parts.specs.declared.Part.{Part}
 use Rattle.parts.specs.Part.{PartIs, PartHeld}
 use Rattle.parts.proofs.Laws.{part_one, part_well_formed}
@@ -22,7 +22,7 @@ use Rattle.patterns.specs.Ways.{exists}
 use Rattle.patterns.specs.Pattern.{Pattern, any, wide, wide_each}
 use Rattle.patterns.specs.Read.{patterns_of, pattern_of, pattern_at, Readable}
 use Rattle.patterns.specs.Nodes.{is_halved, meetings, is_large}
-use Rattle.patterns.specs.Laws.Nodes.{pattern_at_lem}
+use Rattle.patterns.proofs.Laws.Nodes.{pattern_at_lem}
 use Rattle.matching.specs.declared.nodes.Meeting.{Meeting}
 use Rattle.matching.specs.declared.nodes.Meeting.TheVariants.{Unfit, Large, Ways}
 use Rattle.matching.specs.Node.{is_split, MeetsAs, Meets, PieceHeld, PieceOf, inner_of, ways_of, met_by}

@@ -13,8 +13,8 @@ use Rattle.tables.specs.Table.{first_record, Next, fault, one, next, Cut, cut_by
 use Rattle.tables.specs.Check.{most_records}
 use Rattle.prelude.proofs.Truth.{by_lower}
 use Rattle.tables.specs.Accepted.{records}
-use Rattle.tables.specs.Laws.Accepted.{fit_kind, fit_most}
-use Rattle.tables.specs.Laws.Cutting.{IsNext, next-is}
+use Rattle.tables.proofs.Laws.Accepted.{fit_kind, fit_most}
+use Rattle.tables.proofs.Laws.Cutting.{IsNext, next-is}
 use Rattle.tables.specs.Reading.{Stands, EntryOf, EntriesOf, Measured, Packs, CutOut}
 use Rattle.tables.proofs.Lengths.{fields_few}
 use Rattle.tables.proofs.Fit.{plus_zero, plus_four, fields_long, field_at}

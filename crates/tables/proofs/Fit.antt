@@ -17,7 +17,7 @@ use Rattle.tables.specs.Table.{first_record}
 use Rattle.tables.specs.Shapes.{is_tested, known_first}
 use Rattle.prelude.proofs.Absurd.{never}
 use Rattle.prelude.proofs.Truth.{by_lower}
-use Rattle.tables.specs.Laws.Accepted.{fit_kind}
+use Rattle.tables.proofs.Laws.Accepted.{fit_kind}
 use Rattle.tables.proofs.Heads.{untested_known, tested_long}
 
 -- A place in a record, from its start and from its fields.

@@ -10,7 +10,7 @@ use Rattle.prelude.proofs.Truth.{implied, by_lower}
 use Rattle.tables.specs.Record.{Head, nothing, boolean, integer, quote, name, unary, binary, unknown, last_kind, shape, is_expression, is_pattern, fits}
 use Rattle.tables.specs.Sheet.{any}
 use Rattle.tables.specs.Shapes.{is_tested, known_first}
-use Rattle.tables.specs.Laws.Kinds.{each_kind, same_kind}
+use Rattle.tables.proofs.Laws.Kinds.{each_kind, same_kind}
 
 -- Below 16 is up to 15.
 pub below_sixteen : (n : ℕ) → ltb n 16 ≡ leb n 15

@@ -9,8 +9,8 @@ use lib.ListN.{length, get_or}
 use Rattle.tables.specs.Record.{last_kind, shape, size, fits}
 use Rattle.tables.specs.Sheet.{any}
 use Rattle.tables.specs.Shapes.{length_rows, first_of}
-use Rattle.tables.specs.Laws.Tests.{any_none}
-use Rattle.tables.specs.Laws.Kinds.{each_kind, same_kind}
+use Rattle.tables.proofs.Laws.Tests.{any_none}
+use Rattle.tables.proofs.Laws.Kinds.{each_kind, same_kind}
 
 -- ---- lengths
 

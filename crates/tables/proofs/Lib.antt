@@ -6,3 +6,4 @@ mod Cutting
 mod Stand
 mod Sample
 pub mod Rules
+pub mod Laws

@@ -12,7 +12,7 @@ use Rattle.tables.specs.Table.{record_at, kind_at}
 use Rattle.tables.specs.Check.{most_records}
 use Rattle.tables.specs.Shapes.{first_of, roles_of}
 use Rattle.tables.specs.Accepted.{records}
-use Rattle.tables.specs.Laws.Accepted.{fit_records, fit_kind, fit_least, fit_most, named_count, operand_field}
+use Rattle.tables.proofs.Laws.Accepted.{fit_records, fit_kind, fit_least, fit_most, named_count, operand_field}
 use Rattle.tables.specs.Reading.{Stands, place_in, second_in, EntryOf, Here}
 use Rattle.tables.proofs.Lengths.{fields_few}
 use Rattle.tables.proofs.Fit.{plus_four}

@@ -1,5 +1,5 @@
 -- Document 01, "From the input": rules 3 to 9, and the check of a table.
-use Rattle.std.specs.Prelude.{Bool, not, ◌&&◌, ◌||◌, cond, List, [], ◌∷◌, ◌++◌, ℕ, suc, eqb, ltb, length, take}
+use Rattle.std.specs.Prelude.{◌≡◌, Bool, false, not, ◌&&◌, ◌||◌, cond, List, [], ◌∷◌, ◌++◌, ℕ, suc, ◌<◌, eqb, ltb, length, take}
 use Rattle.tables.specs.declared.Role.{Role}
 use Rattle.tables.specs.declared.Role.TheVariants.{Plain, Condition, Body, Pattern, Name}
 use Rattle.tables.specs.declared.Checked.{Checked}
@@ -44,6 +44,10 @@ is_stray rs r = cond (eqb (suc r) (length rs)) (is_pattern (kind_at rs r)) (not 
 -- Rule 6: an operand not lower, of the wrong sort, or named before; a record never named; a pattern as the last.
 unfoldable pub fault6 : List Record → ℕ → Bool
 fault6 rs r = has_bad rs r || is_stray rs r
+
+-- rule 6 is kept
+abbrev pub Clear6 : List Record → Type 0
+Clear6 rs = (r : ℕ) → r < length rs → fault6 rs r ≡ false
 
 -- ---- rules 7 to 9
 

@@ -8,4 +8,3 @@ pub mod Accepted
 pub mod Rules
 pub mod Shapes
 pub mod Reading
-pub mod Laws

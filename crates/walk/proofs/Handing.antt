@@ -18,7 +18,7 @@ use Rattle.meaning.specs.Service.{tree, scratch_bytes}
 use Rattle.walks.proofs.Settling.{sure_tree}
 use Rattle.print.specs.Print.{refused_line, printed, print_of}
 use Rattle.print.specs.Contract.{Wrote, short_line}
-use Rattle.print.specs.Laws.Whole.{print_refused}
+use Rattle.print.proofs.Whole.{print_refused}
 use Rattle.print.proofs.Decimals.{decimal_any}
 use Rattle.printing.specs.declared.Progress.{Progress}
 use Rattle.printing.specs.Due.{Due}

@@ -8,7 +8,7 @@ use lib.Dec.{ltb}
 use borrow.Author.Tests.{ltb-true, ltb-false, lt-ltb, le-ltb}
 use Rattle.prelude.proofs.Absurd.{impossible}
 use Rattle.choices.specs.State.{Choices, View, view, Invariant, Made}
-use Rattle.choices.specs.Tree.{Tree, Final, result, refuses, final, unless_left}
+use Rattle.choices.specs.Tree.{Tree, Final, result, refuses, unless_left}
 use Rattle.choices.specs.Runs.{Came, settle, ended_by}
 use Rattle.choices.proofs.Came.{came_final, settled_value, settled_value_left, settled_refusal, settled_refusal_left, settled_list}
 use Rattle.values.specs.Value.{Value}

@@ -22,7 +22,7 @@ use Rattle.values.specs.Value.{Value}
 use Rattle.lists.specs.Lent.{lent}
 use Rattle.lists.specs.Runs.{UsedWhole as Used}
 use Rattle.tables.specs.Accepted.{records}
-use Rattle.tables.specs.Laws.Accepted.{accepted_fine}
+use Rattle.tables.proofs.Laws.Accepted.{accepted_fine}
 use Rattle.meaning.specs.Read.{sheet}
 use Rattle.meaning.specs.Answer.{pack}
 use Rattle.meaning.specs.Walk.{overwritten}

@@ -1,5 +1,5 @@
 -- The cycle of the evaluator: each member is proved in a module of its own.
-use Prim.Native.Nat.{ℕ, ◌-◌, ◌+◌}
+use Prim.Native.Nat.{◌+◌}
 use native.Mathlib.Omega.{arith}
 use mathlib.Core.Path.{refl, sym, subst, ap, ◌∙◌}
 use Rattle.parts.proofs.Laws.{lent_on}
@@ -13,7 +13,7 @@ use Rattle.evaluator.proofs.Placing.{begin_opened, test_judged}
 use Rattle.evaluator.proofs.Wording.{valued, unvalued, decoded}
 use Rattle.tables.specs.Shapes.{first_of}
 use Rattle.calling.proofs.Framing.{kept_same}
-use mathlib.Core.Logic.{inl, inr, ⊎_elim}
+use mathlib.Core.Logic.{inl, inr}
 use Rattle.evaluator.proofs.Giving.{single_held, gives_at}
 use Rattle.lists.specs.Lent.{lent}
 use Rattle.evaluator.proofs.Comprehending.{collect_off, collect_room, collect_start, collect_whole, kind_as, collects_extends, collects_off, collects_more, collects_copyable, collects_end}

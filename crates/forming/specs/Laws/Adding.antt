@@ -8,7 +8,7 @@ use Rattle.values.specs.Items.{in_order}
 use Rattle.patterns.specs.Ways.{gather}
 use Rattle.patterns.specs.Members.{Alike}
 use Rattle.patterns.specs.Binding.{Binding, nothing, order_bindings, place, sorted}
-use Rattle.patterns.specs.Laws.Ordered.{Rising, before_in, bindings_refl, bindings_flip, sorted_rising, sorted_in, in_sorted, rising_unique}
+use Rattle.patterns.proofs.Laws.Ordered.{Rising, before_in, bindings_refl, bindings_flip, sorted_rising, sorted_in, in_sorted, rising_unique}
 use Rattle.forming.specs.Adding.{adding}
 
 pub adding_append : (xs ys bs : List Binding) → adding (xs ++ ys) bs ≡ adding ys (adding xs bs)

@@ -9,11 +9,11 @@ use Rattle.patterns.specs.Ways.{gather}
 use Rattle.patterns.specs.Members.{Alike}
 use Rattle.patterns.specs.Binding.{Binding, nothing, with_each, together}
 use Rattle.patterns.specs.Pattern.{Pattern, any, each, halved, contents, met, split, left_of, right_of, matches, match_each}
-use Rattle.patterns.specs.Laws.Matched.{in_together, together_in}
-use Rattle.patterns.specs.Laws.Together.{gather_cong, gather_map, with_gather, together_with, together_gather, together_assoc, Fine, all_fine, nothing_fine, matches_fine, with_nothing, nothing_together, with_only, together_nothing, one_together}
+use Rattle.patterns.proofs.Laws.Matched.{in_together, together_in}
+use Rattle.patterns.proofs.Laws.Together.{gather_cong, gather_map, with_gather, together_with, together_gather, together_assoc, Fine, all_fine, nothing_fine, matches_fine, with_nothing, nothing_together, with_only, together_nothing, one_together}
 use Rattle.patterns.specs.Read.{patterns_of, pattern_of}
 use Rattle.patterns.specs.Nodes.{collection_of, is_halved, meetings, both_halves}
-use Rattle.patterns.specs.Laws.Nodes.{parts_length, two_of, on_composed}
+use Rattle.patterns.proofs.Laws.Nodes.{parts_length, two_of, on_composed}
 use Rattle.forming.specs.Onward.{Task, task, matches_all, onward, zipped, one_way}
 
 nothing_all : (ts : List Task) → together (nothing ∷ []) (matches_all ts) ≡ matches_all ts

@@ -1,5 +1,5 @@
 use native.Mathlib.Omega.{arith}
-use Rattle.tables.specs.Laws.Kinds.{composed_told}
+use Rattle.tables.proofs.Laws.Kinds.{composed_told}
 use Rattle.matching.proofs.Records.{has_operand, operand_readable}
 use Rattle.splitting.proofs.Telling.{split_told, split_start, split_leaf, split_here, split_found, split_next, split_none}
 use Rattle.splitting.proofs.+has_split.Goals as goal

@@ -1,7 +1,7 @@
 use native.Mathlib.Omega.{arith}
 use mathlib.Core.Path.{ap, ◌∙◌}
 use Rattle.tables.specs.Record.{is_composed}
-use Rattle.tables.specs.Laws.Kinds.{composed_told}
+use Rattle.tables.proofs.Laws.Kinds.{composed_told}
 use Rattle.matching.proofs.Records.{count_fits, has_operand, operand_readable, recast_meets}
 use Rattle.splitting.proofs.Telling.{wide_leaf, wide_unfit, wide_large, ways_held, wide_ways_lem, ways_shallow, ways_start, ways_none, way_held, ways_found, ways_next, parts_start, parts_none, piece_asked, piece_held, parts_past, parts_found, parts_next}
 use Rattle.splitting.proofs.+in_way_in_ways_too_large.Goals as goal

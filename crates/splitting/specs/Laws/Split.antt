@@ -10,9 +10,9 @@ use Rattle.values.specs.Value.{Kind, number, Value, collection}
 use Rattle.values.proofs.Order.{number_inj}
 use Rattle.patterns.specs.Ways.{Halves, exists}
 use Rattle.patterns.specs.Relation.{Divided}
-use Rattle.patterns.specs.Laws.Collected.{units_items, divided_units}
-use Rattle.patterns.specs.Laws.Named.{shared_left, shared_right, part_length}
-use Rattle.patterns.specs.Laws.Matched.{contents_of, in_split}
+use Rattle.patterns.proofs.Laws.Collected.{units_items, divided_units}
+use Rattle.patterns.proofs.Laws.Named.{shared_left, shared_right, part_length}
+use Rattle.patterns.proofs.Laws.Matched.{contents_of, in_split}
 use Rattle.patterns.specs.Pattern.{Pattern, name, any, literal, each, halved, Patterns, nil, cons, parts, items_of, contents, UnitOf, units_of, items_in, met, split, left_of, right_of, is_unordered, wide, wide_each, most_split, is_too_large}
 use Rattle.splitting.specs.Split.{shallow, has_split, some_split}
 

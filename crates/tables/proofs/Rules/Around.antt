@@ -12,8 +12,9 @@ use Rattle.prelude.proofs.Truth.{by_lower, or_cases}
 use Rattle.tables.specs.Record.{Record, named, operand}
 use Rattle.tables.specs.Table.{record_at}
 use Rattle.tables.specs.Sheet.{some, any_below}
-use Rattle.tables.specs.Laws.Below.{fold_at}
-use Rattle.tables.specs.Laws.Accepted.{Clear6, lower, operand_lower, named_all}
+use Rattle.tables.proofs.Laws.Below.{fold_at}
+use Rattle.tables.proofs.Laws.Accepted.{lower, operand_lower, named_all}
+use Rattle.tables.specs.Check.{Clear6}
 use Rattle.tables.specs.Rules.{Names, Within, itself, below}
 use Rattle.tables.proofs.Rules.Tells.{Tells, tells_by, tells_as, tells_or, tells_some, tells_true}
 use Rattle.tables.proofs.Rules.Naming.{tells_named}

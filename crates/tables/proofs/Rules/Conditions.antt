@@ -17,7 +17,8 @@ use Rattle.tables.specs.Record.{Record, role_at, is_fit}
 use Rattle.tables.specs.Table.{record_at, kind_at}
 use Rattle.tables.specs.Sheet.{is_loose, loose, is_condition, pattern_of, in_condition}
 use Rattle.tables.specs.Check.{chooses, fault8}
-use Rattle.tables.specs.Laws.Accepted.{Clear6, condition_operand, condition_last, let_operand}
+use Rattle.tables.proofs.Laws.Accepted.{condition_operand, condition_last, let_operand}
+use Rattle.tables.specs.Check.{Clear6}
 use Rattle.tables.specs.Rules.{Names, Loose, Chooses, let_be, loose_let, InCondition, Fault8}
 use Rattle.tables.proofs.Rules.Tells.{Tells, tells_as, tells_and}
 use Rattle.tables.proofs.Rules.Around.{names_lower, tells_below, tells_around}

@@ -15,8 +15,9 @@ use Rattle.tables.specs.Table.{cut}
 use Rattle.tables.specs.Sheet.{lowest}
 use Rattle.tables.specs.Check.{most_bytes, most_records, fault6, fault7, fault8, fault9, judged, judged_cut, check}
 use Rattle.tables.specs.Accepted.{records}
-use Rattle.tables.specs.Laws.Tests.{low}
-use Rattle.tables.specs.Laws.Accepted.{clear, Clear6, fit_records}
+use Rattle.tables.proofs.Laws.Tests.{low}
+use Rattle.tables.proofs.Laws.Accepted.{clear, fit_records}
+use Rattle.tables.specs.Check.{Clear6}
 use Rattle.tables.specs.Rules.{Broken3, empty, large, Broken4, RecordsOf, Broken5, Fault6, Fault7, Fault8, Fault9, OfRecords, rule, rules, CheckIsExact}
 use Rattle.tables.proofs.Rules.Tells.{Tells, refuted, tells_or, tells_lower, tells_same}
 use Rattle.tables.proofs.Rules.Cutting.{CutIs, all_cut, not_cut, cut_is, records_same, no_records, broken_same}

@@ -9,8 +9,9 @@ use Rattle.tables.specs.Record.{Record, named, operand}
 use Rattle.tables.specs.Table.{record_at}
 use Rattle.tables.specs.Sheet.{greatest, height}
 use Rattle.tables.specs.Check.{most_height, fault9}
-use Rattle.tables.specs.Laws.Operands.{greatest_all}
-use Rattle.tables.specs.Laws.Accepted.{Clear6, height-at}
+use Rattle.tables.proofs.Laws.Operands.{greatest_all}
+use Rattle.tables.proofs.Laws.Accepted.{height-at}
+use Rattle.tables.specs.Check.{Clear6}
 use Rattle.tables.specs.Rules.{Names, Heights, Fault9}
 use Rattle.tables.proofs.Rules.Tells.{Tells, tells_as, tells_lower}
 use Rattle.tables.proofs.Rules.Around.{names_lower}

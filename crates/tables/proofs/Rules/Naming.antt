@@ -18,7 +18,7 @@ use Rattle.tables.specs.Record.{Record, Sort, expression, pattern, neither, shap
 use Rattle.tables.specs.Table.{no_record, record_at, kind_at}
 use Rattle.tables.specs.Sheet.{is_in}
 use Rattle.tables.specs.Check.{is_of_sort, all_named, named_before, is_bad, is_stray, fault6}
-use Rattle.tables.specs.Laws.Tests.{in_append, Place, in_place}
+use Rattle.tables.proofs.Laws.Tests.{in_append, Place, in_place}
 use Rattle.tables.specs.Rules.{Names, OfSort, Before, Fault6, not_lower, wrong_sort, is_named_before, never_named, pattern_last}
 use Rattle.tables.proofs.Rules.Tells.{Tells, tells_as, tells_not, tells_or, tells_lower, tells_same, tells_any, tells_in}
 

@@ -16,9 +16,10 @@ use Rattle.tables.specs.Table.{record_at, kind_at}
 use Rattle.tables.specs.Shapes.{binder_role}
 use Rattle.tables.specs.Sheet.{is_name, holds_name, is_covered, is_binder, pattern_of, is_bound}
 use Rattle.tables.specs.Check.{is_of_sort, fault7}
-use Rattle.tables.specs.Laws.Operands.{operands_few}
-use Rattle.tables.specs.Laws.Roles.{role_by_lem}
-use Rattle.tables.specs.Laws.Accepted.{Clear6, operand_sort, bound_operand, bound_last, named_all, last_sort, pattern_role, fit_kind, fit_expression}
+use Rattle.tables.proofs.Laws.Operands.{operands_few}
+use Rattle.tables.proofs.Laws.Roles.{role_by_lem}
+use Rattle.tables.proofs.Laws.Accepted.{operand_sort, bound_operand, bound_last, named_all, last_sort, pattern_role, fit_kind, fit_expression}
+use Rattle.tables.specs.Check.{Clear6}
 use Rattle.tables.specs.Rules.{Names, Within, itself, below, Holds, Covered, Bound, BinderOf, Fault7, unbound, bound_already}
 use Rattle.tables.proofs.Rules.Tells.{Tells, tells_as, tells_not, tells_or, tells_and, tells_same}
 use Rattle.tables.proofs.Rules.Naming.{expressions, patterns, tells_named}

@@ -12,7 +12,7 @@ use mathlib.Mathlib.Data.Bool.Basic.{and_elim_left, and_elim_right, and_intro, o
 use Rattle.prelude.proofs.Absurd.{never}
 use Rattle.prelude.proofs.Truth.{by_test, by_lower, or_cases}
 use Rattle.tables.specs.Sheet.{any, some, is_in}
-use Rattle.tables.specs.Laws.Tests.{in_get_d, Place, in_place}
+use Rattle.tables.proofs.Laws.Tests.{in_get_d, Place, in_place}
 
 pub record Tells (b : Bool) (P : Type 0) : Type 0 where
   pub yes : b ≡ true → P

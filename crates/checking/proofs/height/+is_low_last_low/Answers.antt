@@ -8,7 +8,7 @@ use Rattle.tables.specs.Shapes.{first_of}
 use Rattle.tables.specs.Record.{is_leaf}
 use Rattle.tables.specs.Sheet.{height}
 use Rattle.tables.specs.Accepted.{records}
-use Rattle.tables.specs.Laws.Accepted.{fit_records, operand_lower}
+use Rattle.tables.proofs.Laws.Accepted.{fit_records, operand_lower}
 use Rattle.checking.proofs.Heights.{low_start, low_more, operand_high, operand_last, down_start, down_bare, down_leaf, down_high, down_more, down_end}
 use Rattle.checking.proofs.height.+is_low_last_low.Goals as goal
 use Rattle.checking.proofs.height.+is_low_last_low.Goals.{last_low-then-not-flat+else-not-low, last_low-else-not-flat}

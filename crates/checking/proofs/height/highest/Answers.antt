@@ -1,7 +1,7 @@
 -- The greatest so far, and the heights of the operands that are left.
 use native.Mathlib.Omega.{arith}
 use Rattle.tables.specs.Accepted.{records}
-use Rattle.tables.specs.Laws.Accepted.{operand_lower}
+use Rattle.tables.proofs.Laws.Accepted.{operand_lower}
 use Rattle.checking.proofs.Heights.{going_start, going_more, going_end}
 use Rattle.checking.proofs.height.highest.Goals as goal
 

@@ -8,7 +8,7 @@ use Rattle.prelude.proofs.Truth.{by_lower}
 use Rattle.tables.specs.Record.{is_leaf}
 use Rattle.tables.specs.Shapes.{first_of}
 use Rattle.tables.specs.Accepted.{records}
-use Rattle.tables.specs.Laws.Accepted.{fit_records, operand_lower}
+use Rattle.tables.proofs.Laws.Accepted.{fit_records, operand_lower}
 use Rattle.checking.proofs.Heights.{leaf_height, low_start, low_more, all_low}
 use Rattle.checking.proofs.height.is_flat.Goals as goal
 

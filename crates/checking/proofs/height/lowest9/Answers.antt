@@ -3,7 +3,7 @@ use mathlib.Core.Path.{sym, ◌∙◌}
 use Prim.Native.Nat.{◌-◌}
 use native.Mathlib.Omega.{arith}
 use Rattle.tables.specs.Accepted.{records}
-use Rattle.tables.specs.Laws.Accepted.{fit_records}
+use Rattle.tables.proofs.Laws.Accepted.{fit_records}
 use Rattle.checking.proofs.Heights.{leaf_height, few_low, last_low}
 use Rattle.checking.proofs.height.lowest9.Goals as goal
 

@@ -4,7 +4,7 @@ use Rattle.checking.proofs.Below.{name_pattern, name_read}
 use Rattle.checking.proofs.Bits.{around_name}
 use Rattle.checking.specs.Scopes.{has_bit, around}
 use Rattle.tables.specs.Accepted.{records}
-use Rattle.tables.specs.Laws.Accepted.{fit_records}
+use Rattle.tables.proofs.Laws.Accepted.{fit_records}
 use Rattle.tables.specs.Table.{record_at}
 use Rattle.tables.specs.Record.{name_of}
 use Prim.Native.Nat.{ℕ, ◌+◌}

@@ -4,7 +4,7 @@ use Rattle.tables.specs.Sheet.{pattern_of}
 use Rattle.checking.proofs.Bits.{around_condition, held_loose}
 use Rattle.checking.specs.Scopes.{has_bit}
 use Rattle.tables.specs.Accepted.{records}
-use Rattle.tables.specs.Laws.Accepted.{fit_records}
+use Rattle.tables.proofs.Laws.Accepted.{fit_records}
 use Rattle.tables.specs.Table.{record_at}
 use Prim.Native.Nat.{ℕ}
 use native.Mathlib.Omega.{arith}

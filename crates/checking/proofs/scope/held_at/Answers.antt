@@ -3,7 +3,7 @@ use Rattle.checking.specs.Scopes.{bits_below}
 use lib.ListN.{get_or}
 use Rattle.checking.proofs.Below.{turn_start, turn_more, turn_end}
 use Rattle.tables.specs.Accepted.{records}
-use Rattle.tables.specs.Laws.Accepted.{lower, operand_lower}
+use Rattle.tables.proofs.Laws.Accepted.{lower, operand_lower}
 use native.Mathlib.Omega.{arith}
 use mathlib.Core.Path.{ap, ◌∙◌}
 use Rattle.checking.proofs.scope.held_at.Goals as goal

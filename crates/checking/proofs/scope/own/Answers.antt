@@ -1,7 +1,7 @@
 -- By kind.
 use Rattle.checking.proofs.Below.{name_pattern, own_name, own_loose, own_none}
 use Rattle.tables.specs.Accepted.{records}
-use Rattle.tables.specs.Laws.Accepted.{fit_records}
+use Rattle.tables.proofs.Laws.Accepted.{fit_records}
 use Rattle.tables.specs.Table.{record_at}
 use native.Mathlib.Omega.{arith}
 use mathlib.Core.Path.{sym, ap, ◌∙◌}

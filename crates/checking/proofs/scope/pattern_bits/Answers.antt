@@ -1,7 +1,7 @@
 -- The pattern is lower.
 use Rattle.checking.specs.Scopes.{bits_below}
 use Rattle.tables.specs.Accepted.{records}
-use Rattle.tables.specs.Laws.Accepted.{operand_lower}
+use Rattle.tables.proofs.Laws.Accepted.{operand_lower}
 use native.Mathlib.Omega.{arith}
 use mathlib.Core.Path.{ap, ◌∙◌}
 use Rattle.checking.proofs.scope.pattern_bits.Goals as goal

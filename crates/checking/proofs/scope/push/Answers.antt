@@ -2,7 +2,7 @@
 use Rattle.checking.proofs.Above.{push_start, own_around, push_more, push_end}
 use Rattle.checking.specs.Scopes.{or_bits, around}
 use Rattle.tables.specs.Accepted.{records}
-use Rattle.tables.specs.Laws.Accepted.{operand_lower}
+use Rattle.tables.proofs.Laws.Accepted.{operand_lower}
 use Prim.Native.Nat.{ℕ}
 use native.Mathlib.Omega.{arith}
 use mathlib.Core.Path.{refl, ap, ◌∙◌}

@@ -1,6 +1,6 @@
 -- By kind.
 use native.Mathlib.Omega.{arith}
-use Rattle.tables.specs.Laws.Kinds.{plain_begins, operator_begins}
+use Rattle.tables.proofs.Laws.Kinds.{plain_begins, operator_begins}
 use Rattle.checking.proofs.sweep.first_byte.Goals as goal
 
 pub returns-then-kind-lt-IF : goal.returns-then-kind-lt-IF

@@ -1,7 +1,6 @@
 use Rattle.evaluator.proofs.Suiting.{walk_start, walk-next, walk_fails, walk_on, walk_end, other_kind, same_kind}
 use Rattle.values.proofs.Records.{holds}
 use native.Mathlib.Omega.{arith}
-use Prim.Native.Nat.{◌-◌}
 use Rattle.evaluator.proofs.binding.all_of_kind.Goals as goal
 
 pub loop-p-init : goal.loop-p-init

@@ -1,5 +1,4 @@
 use mathlib.Core.Path.{refl, sym, ◌∙◌}
-use Prim.Native.Nat.{◌-◌}
 use native.Mathlib.Omega.{arith}
 use Rattle.evaluator.proofs.Loosening.{loose_here, left_start, left_has, left_below, left_found, left_more, left_none}
 use Rattle.evaluator.proofs.looseness.+is_loose_pattern.Goals as goal

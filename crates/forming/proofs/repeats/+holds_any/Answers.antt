@@ -1,6 +1,6 @@
 use native.Mathlib.Omega.{arith}
 use mathlib.Core.Path.{sym, ◌∙◌}
-use Rattle.tables.specs.Laws.Kinds.{composed_told}
+use Rattle.tables.proofs.Laws.Kinds.{composed_told}
 use Rattle.matching.proofs.Records.{has_operand, operand_readable}
 use Rattle.forming.proofs.Repeating.{any_here, any_leaf, any_next, any_found, any_none}
 use Rattle.forming.proofs.repeats.+holds_any.Goals as goal

@@ -1,6 +1,6 @@
 use mathlib.Core.Path.{sym, ◌∙◌}
 use native.Mathlib.Omega.{arith}
-use Rattle.tables.specs.Laws.Kinds.{composed_told}
+use Rattle.tables.proofs.Laws.Kinds.{composed_told}
 use Rattle.matching.proofs.Records.{name_field, has_operand, operand_readable}
 use Rattle.forming.proofs.Settling.{settled_name, settled_leaf, settled_next, settled_all, settled_no}
 use Rattle.forming.proofs.settled.+is_settled.Goals as goal

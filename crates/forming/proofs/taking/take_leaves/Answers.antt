@@ -1,5 +1,5 @@
 use native.Mathlib.Omega.{arith}
-use Rattle.tables.specs.Laws.Kinds.{composed_told}
+use Rattle.tables.proofs.Laws.Kinds.{composed_told}
 use Rattle.forming.proofs.Leaving.{take_start, head_low, entry_low, entry_readable, next_lower, leaf_asked, ask_asked, take_wait, take_leaf, take_none, take_lacked, take_full, take_end}
 use Rattle.forming.proofs.taking.take_leaves.Goals as goal
 

@@ -3,7 +3,7 @@ use native.Mathlib.Omega.{arith}
 use mathlib.Core.Path.{sym, ◌∙◌}
 use lib.ListN.{length}
 use Rattle.meaning.specs.Service.{evaluates}
-use Rattle.meaning.specs.Laws.ReadBack.{evaluate_late}
+use Rattle.meaning.proofs.Laws.ReadBack.{evaluate_late}
 use Rattle.services.proofs.Admitting.{refused, granted}
 use Rattle.services.proofs.Calls.{small_due, valued, copy_long, evaluate_done, evaluate_refused}
 use Rattle.services.proofs.evaluate.dengwizo_evaluate.Goals as goal

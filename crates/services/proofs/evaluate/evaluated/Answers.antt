@@ -1,7 +1,7 @@
 -- Rule 10, or the run.
 use mathlib.Core.Path.{sym, ◌∙◌}
 use lib.ListN.{length}
-use Rattle.meaning.specs.Laws.Services.{evaluates_10, evaluates_run}
+use Rattle.meaning.proofs.Laws.Services.{evaluates_10, evaluates_run}
 use Rattle.services.proofs.Calls.{part_long, indexes, evaluated_off, evaluated_ran}
 use Rattle.services.proofs.evaluate.evaluated.Goals as goal
 

@@ -1,7 +1,7 @@
 -- By the operand's number.
 use native.Mathlib.Omega.{arith}
 use mathlib.Core.Path.{sym}
-use Rattle.tables.specs.Laws.Roles.{binder_later}
+use Rattle.tables.proofs.Laws.Roles.{binder_later}
 use Rattle.tables.proofs.shape.binder_role.Goals as goal
 
 pub returns-in-0 : goal.returns-in-0

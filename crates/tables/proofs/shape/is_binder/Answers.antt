@@ -1,6 +1,6 @@
 -- Kinds 12 to 20.
 use mathlib.Core.Path.{sym, ◌∙◌}
-use Rattle.tables.specs.Laws.Kinds.{binder_kinds}
+use Rattle.tables.proofs.Laws.Kinds.{binder_kinds}
 use Rattle.tables.proofs.shape.is_binder.Goals as goal
 
 pub returns : goal.returns

@@ -1,6 +1,6 @@
 -- Kinds 1 to 22.
 use mathlib.Core.Path.{sym, ◌∙◌}
-use Rattle.tables.specs.Laws.Kinds.{expression_kinds}
+use Rattle.tables.proofs.Laws.Kinds.{expression_kinds}
 use Rattle.tables.proofs.shape.is_expression.Goals as goal
 
 pub returns : goal.returns

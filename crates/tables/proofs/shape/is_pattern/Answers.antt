@@ -1,6 +1,6 @@
 -- Kinds 32 to the last.
 use mathlib.Core.Path.{sym, ◌∙◌}
-use Rattle.tables.specs.Laws.Kinds.{pattern_kinds}
+use Rattle.tables.proofs.Laws.Kinds.{pattern_kinds}
 use Rattle.tables.proofs.shape.is_pattern.Goals as goal
 
 pub returns : goal.returns

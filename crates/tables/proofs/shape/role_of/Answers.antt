@@ -1,6 +1,6 @@
 -- By the kind's sort, and whether it binds.
 use mathlib.Core.Path.{sym, ◌∙◌}
-use Rattle.tables.specs.Laws.Roles.{role_by_lem}
+use Rattle.tables.proofs.Laws.Roles.{role_by_lem}
 use Rattle.tables.proofs.shape.role_of.Goals as goal
 
 pub returns-then-is_pattern : goal.returns-then-is_pattern

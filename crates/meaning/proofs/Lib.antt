@@ -1,0 +1,3 @@
+-- Theorems on these definitions, and what their proofs need. Cited by the crates above.
+pub mod Laws
+pub mod Agreement

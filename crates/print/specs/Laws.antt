@@ -1,2 +1,0 @@
--- Laws of the print.
-pub mod Whole
