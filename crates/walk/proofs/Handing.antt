@@ -5,7 +5,10 @@ use mathlib.Core.List.{List, [], ◌++◌}
 use Prim.Native.Nat.{ℕ, ◌+◌, ◌-◌, ◌≤◌, ◌<◌}
 use native.Mathlib.Omega.{arith}
 use lib.ListN.{length, take, drop, length-append, length-drop}
-use lib.Seq.{length-take-le, take-length, take-append_seam, drop-append_seam, drop-drop}
+use lib.Seq.{length-take-le, take-add, take-length, take-append_seam, drop-append_seam, drop-drop}
+use Rattle.std.specs.Prelude.{Option}
+use Rattle.std.specs.Io.KnownBytes.{Appends}
+use Rattle.std.proofs.KnownBytes.{Appends-nil, Appends-trans}
 use Rattle.prelude.proofs.Absurd.{never}
 use Rattle.choices.specs.declared.list.Walk.{Walk}
 use Rattle.choices.specs.State.{Made}
@@ -26,12 +29,8 @@ use Rattle.printing.specs.Rest.{from_list, to_come}
 use Rattle.printing.specs.Contract.{Begun, Filled, most_piece, Printing}
 use Rattle.printing.proofs.Walking.{first_due}
 use Rattle.printing.proofs.Texts.{wrote_inside, wrote_take}
-use Rattle.io.specs.Counts.{IsPrefixLen}
-use Rattle.walk.specs.declared.Input.{Input}
-use Rattle.walk.specs.declared.Input.TheVariants.{Bytes}
 use Rattle.walk.specs.declared.Sent.{Sent}
-use Rattle.walk.specs.Input.{Within}
-use Rattle.walk.specs.Output.{Next, HandedOn, Printed}
+use Rattle.walk.specs.Output.{Next, HandedOn, Printed, Arrived}
 
 -- ---- a refused table
 
@@ -43,7 +42,7 @@ module _ (out out' : List ℕ) (n p r : ℕ) (w : Wrote out out' 0 (refused_line
   refused_inside = wrote_inside out out' (refused_line n p) 0 r w (omega (arith, refused_short n p h k))
 
   -- It is the whole print.
-  refused_whole : (table : List ℕ) → check table ≡ Refused n p → take r out' ≡ print_of table
+  pub refused_whole : (table : List ℕ) → check table ≡ Refused n p → take r out' ≡ print_of table
   refused_whole table e =
       wrote_take out out' (refused_line n p) 0 r w (omega (arith, refused_short n p h k))
       ∙ sym (print_refused table n p e)
@@ -77,6 +76,24 @@ module _ (table : List ℕ) (sent : ℕ) (piece : List ℕ) (r : Sent) (g : Hand
       go : (b : Bool) → r.failed ≡ b → Printed table r
       go true o = printed_failed (omega arith) o
       go false o = record { within = omega (arith, sent_on o); whole = λ q. sent_on o ∙ e }
+
+-- ---- what arrived
+
+-- Nothing of the print did.
+pub nothing_arrived : (a : Option (List ℕ)) → Appends a a []
+nothing_arrived a = Appends-nil a
+
+-- A piece arrived behind what of the print had.
+module _ (table : List ℕ) (sent : ℕ) (piece : List ℕ) (n : Next table sent piece) (a b c : Option (List ℕ)) (had : Appends a b (take sent (print_of table))) (r : Sent) (got : Arrived b c piece r) where
+  pub arrived_on : r.failed ≡ false → Appends a c (take (sent + length piece) (print_of table))
+  arrived_on o =
+      subst (Appends a c)
+      (ap (λ (l : List ℕ). take sent (print_of table) ++ l) (sym n.piece_is) ∙ sym (take-add sent (length piece) (print_of table)))
+      (Appends-trans a b c (take sent (print_of table)) piece had (got o))
+
+  pub arrived_whole : sent + length piece ≡ length (print_of table) → Arrived a c (print_of table) r
+  arrived_whole e o =
+      subst (Appends a c) (ap (λ (k : ℕ). take k (print_of table)) e ∙ take-length (print_of table)) (arrived_on o)
 
 -- ---- the start
 
@@ -160,8 +177,3 @@ module _ (table index : List ℕ) (count : ℕ) (s run out : List ℕ) (sent : �
 -- Choices made of the empty walk.
 pub made_empty : (w : Walk) → Lists w [] → (run : List ℕ) → Made (list_held w) true (lent run) → Made [] true (lent run)
 made_empty w h run m = subst (λ (l : List ℕ). Made l true (lent run)) (ap (λ (n : ℕ). take n w.entries) h.long) m
-
--- ---- reading
-
-pub within_counts : (i : Input) (n : ℕ) (buffer : List ℕ) → i ≡ Bytes n → Within i buffer → IsPrefixLen n buffer
-within_counts i n buffer e h = subst (λ (x : Input). Within x buffer) e h

@@ -1,6 +1,7 @@
--- What is promised of the print that goes out. A contract can speak of the bytes that a write is given and of what the program makes of its answer, and not
--- of the bytes that arrive: the kit's contract of a write says nothing of those.
-use Rattle.std.specs.Prelude.{◌≡◌, false, cond, List, ℕ, ◌+◌, ◌≤◌, length}
+-- What is promised of the print that goes out: of the bytes that a write is given, of what the program makes of its answer, and of the bytes that arrive
+-- where a contract can name them. Of standard output it cannot: std's contract of a write there says nothing of those.
+use Rattle.std.specs.Prelude.{◌≡◌, false, cond, List, Option, ℕ, ◌+◌, ◌≤◌, length}
+use Rattle.std.specs.Io.KnownBytes.{Appends}
 use Rattle.print.specs.Print.{print_of}
 use Rattle.printing.specs.Pieces.{Piece}
 use Rattle.printing.specs.Contract.{most_sent}
@@ -19,3 +20,7 @@ HandedOn sent piece r = r.bytes ≡ cond r.failed sent (sent + length piece)
 pub record Printed (table : List ℕ) (r : Sent) : Type 0 where
   pub within : r.bytes ≤ length (print_of table)
   pub whole : r.failed ≡ false → r.bytes ≡ length (print_of table)
+
+-- Where it is known what the output holds, and no write failed: it grew by the text.
+abbrev pub Arrived : Option (List ℕ) → Option (List ℕ) → List ℕ → Sent → Type 0
+Arrived before after text r = r.failed ≡ false → Appends before after text
