@@ -1,5 +1,5 @@
 -- The first list is due, and the first line is in the buffer.
-use mathlib.Core.Path.{◌∙◌, sym}
+use mathlib.Core.Path.{◌∙◌}
 use Rattle.walk.proofs.Handing.{made_empty, printing_start}
 use Rattle.walk.proofs.print_accepted.Goals as goal
 

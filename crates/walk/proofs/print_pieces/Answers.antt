@@ -2,9 +2,7 @@
 use mathlib.Core.Path.{refl, sym, ap, ◌∙◌, subst}
 use Prim.Native.Nat.{ℕ}
 use lib.ListN.{take}
-use lib.Seq.{length-take-le}
 use native.Mathlib.Omega.{arith}
-use borrow.Author.Rules.{rules}
 use Rattle.std.specs.Io.KnownBytes.{Appends}
 use Rattle.print.specs.Print.{print_of}
 use Rattle.printing.specs.declared.Progress.{Progress}
