@@ -111,7 +111,7 @@ def turn_words(text, table):
 
 
 def turn_ticked(text, table):
-    return TICKED.sub(lambda m: turn_words(m.group(0), table), text)
+    return TICKED.sub(lambda m: "`" + turn_words(m.group(0)[1:-1], table) + "`", text)
 
 
 def turn_antt(text, table, walks=False):

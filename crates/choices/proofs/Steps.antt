@@ -1,4 +1,4 @@
--- From the first path on, `nextPath` goes through the paths of a tree one after the other, whatever their length.
+-- From the first path on, `next_path` goes through the paths of a tree one after the other, whatever their length.
 use mathlib.Core.Path.{◌≡◌, refl, ap, ◌∙◌}
 use mathlib.Core.Bool.{Bool, true, false, cond}
 use mathlib.Core.Option.{Option, none, some}

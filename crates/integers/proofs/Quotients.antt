@@ -135,7 +135,7 @@ floor_near left (negsuc k) p q other f g =
     let y = negsuc k *ℤ q in
     omega (arith, parts_le left y (g.negative below).0, parts_lt (x +ℤ negsuc k) left (f.negative below).1, parts_add x (negsuc k))
 
--- THEOREM: `floorℤ left right` is the one integer that is floor(left/right)
+-- THEOREM: `floor_ℤ left right` is the one integer that is floor(left/right)
 floor_is : (left right : ℤ) → (right ≡ pos 0 → ⊥) → TheOne (Floor left right) (floor_ℤ left right)
 floor_is left right other =
     let f = floor_holds left right other in

@@ -1,4 +1,4 @@
--- Laws of the range and of answers. Only `range-fits`, `fits-range` and the laws of sizes depend on the two limits themselves.
+-- Laws of the range and of answers. Only `range_fits`, `fits_range` and the laws of sizes depend on the two limits themselves.
 use mathlib.Core.Path.{◌≡◌, refl, sym, ap, ◌∙◌}
 use mathlib.Core.Bool.{Bool, true, false, and-false, cond}
 use Prim.Native.Nat.{zero, suc, ◌≤◌}

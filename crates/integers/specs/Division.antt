@@ -1,5 +1,5 @@
 -- Division of whole numbers as document 01 says it, by inequalities: what it is to cut toward zero, to be the floor, and to have a sign.
--- It is proved that `divℤ` and `floorℤ` (`Whole`) are the one integer each that these single out: `integers/proofs/Quotients`.
+-- It is proved that `div_ℤ` and `floor_ℤ` (`Whole`) are the one integer each that these single out: `integers/proofs/Quotients`.
 use Rattle.std.specs.Prelude.{◌≡◌, ◌+◌, ◌≤◌, ◌<◌, ℤ, pos, nat_abs, ◌+ℤ◌, ◌*ℤ◌, ◌≤ℤ◌, ◌<ℤ◌}
 
 -- z has the sign of s, or is 0

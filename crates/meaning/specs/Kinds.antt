@@ -91,7 +91,7 @@ module _ (table : List ℕ) where
     Maplet β new = (k v : Value) × May (operand_of r 3) (under ρ β) k × May (operand_of r 4) (under ρ β) v × (new ≡ k ∷ v ∷ [])
 
     -- The set operand of the binder r may give a set, forming its bindings gives neither 29 nor 30, and Q holds of members and bindings. (The
-    -- bindings are those with which P matches a member, distinct and in order: `bindings-exactly`, `sorted-rising` in `patterns`.)
+    -- bindings are those with which P matches a member, distinct and in order: `bindings_exactly`, `sorted_rising` in `patterns`.)
     pub record Over (Q : Items → List Binding → Type 0) : Type 0 where
       pub members : Items
       pub all : List Binding

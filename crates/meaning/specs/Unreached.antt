@@ -1,5 +1,5 @@
 -- What the definitions say where nothing can be is not reached in an accepted table: an operator without a number, an iota without its name, a
--- name that is not bound, a pattern evaluated. (The bound on the recursion is out of sight by `meaning-is` and `loose-meaning-is`.)
+-- name that is not bound, a pattern evaluated. (The bound on the recursion is out of sight by `meaning_is` and `loose_meaning_is`.)
 -- `unreached` (Laws/Unreached) proves it.
 use Rattle.std.specs.Prelude.{◌≡◌, List, ℕ, ◌≤◌}
 use Rattle.std.proofs.Math.Option.{some}

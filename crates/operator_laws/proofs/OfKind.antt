@@ -10,7 +10,7 @@ use Rattle.values.proofs.Order.{number_low, number_high, number_inj}
 use Rattle.operators.specs.Answer.{as_boolean, as_integer, as_kind}
 use Rattle.operators.specs.Gather.{is_kind}
 
--- A value of this kind is what the view finds (`is-boolean`, `is-integer` of values, Records), and nothing else is.
+-- A value of this kind is what the view finds (`is_boolean`, `is_integer` of values, Records), and nothing else is.
 pub boolean_not : (v : Value) → (kind_of v ≡ 1 → ⊥) → as_boolean v ≡ absent
 boolean_not (boolean b) f = absurd (f refl)
 boolean_not (integer z) f = refl

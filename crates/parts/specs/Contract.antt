@@ -1,4 +1,4 @@
--- What the functions on parts ask and promise. Each promise is for whatever value the part denotes: by `part-one` there is one.
+-- What the functions on parts ask and promise. Each promise is for whatever value the part denotes: by `part_one` there is one.
 use Rattle.std.specs.Prelude.{◌≡◌, Bool, true, false, List, [], ℕ, ◌+◌, ◌-◌, ◌^◌, ◌≤◌, ◌<◌, length, get_or}
 use Rattle.prelude.specs.Membership.{In}
 use Rattle.integers.specs.declared.Order.{Order}

@@ -13,7 +13,7 @@ pub record IsBinding (b : Binding) : Type 0 where
   pub sized : length b ≡ names
   pub clear : (x : ℕ) → cell_of b x ≡ clash → ⊥
 
--- c gives each name the value that a or b gives it, and no other. So where both give one, it is the same (`Laws.Given.same-given`).
+-- c gives each name the value that a or b gives it, and no other. So where both give one, it is the same (`Laws.Given.same_given`).
 pub record GivesBoth (a b c : Binding) : Type 0 where
   pub first : (x : ℕ) (v : Value) → Gives a x v → Gives c x v
   pub second : (x : ℕ) (v : Value) → Gives b x v → Gives c x v

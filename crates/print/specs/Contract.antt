@@ -23,11 +23,11 @@ pub record Wrote (s t : List ℕ) (at : ℕ) (bytes : List ℕ) (r : ℕ) : Type
 
 -- ---- limits
 
--- No outcome's text is longer: `=` and the text of a value, which has 3 bytes less than twice its record. `outcome-short` (proofs/Lines).
+-- No outcome's text is longer: `=` and the text of a value, which has 3 bytes less than twice its record. `outcome_short` (proofs/Lines).
 abbrev pub longest_outcome : ℕ
 longest_outcome = 2 * value_limit - 2
 
--- No line is longer: 64 entries of up to three digits, each with a comma or a space after it, an outcome's text, the line's end. `longest-line` (proofs/Lines).
+-- No line is longer: 64 entries of up to three digits, each with a comma or a space after it, an outcome's text, the line's end. `longest_line_lem` (proofs/Lines).
 abbrev pub longest_line : ℕ
 longest_line = 4 * most_choices + longest_outcome + 1
 

@@ -1,5 +1,5 @@
 -- Document 01, "The walk print": the whole print, from a table's bytes alone. It is stated over all complete lists of the table in dictionary order
--- (`allLists`), and over what evaluating under each answers (`runs`).
+-- (`all_lists`), and over what evaluating under each answers (`runs`).
 use Rattle.std.specs.Prelude.{cond, List, [], ◌∷◌, ◌++◌, ℕ, ltb, length, take}
 use Rattle.choices.specs.Paths.{all_lists}
 use Rattle.tables.specs.declared.Checked.{Checked}

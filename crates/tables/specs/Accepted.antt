@@ -1,4 +1,4 @@
--- What holds of every accepted table, by the tests of the check: what crates that read accepted tables cite. `accepted-fine` (Laws/Accepted) proves it, and what follows for its records.
+-- What holds of every accepted table, by the tests of the check: what crates that read accepted tables cite. `accepted_fine` (Laws/Accepted) proves it, and what follows for its records.
 -- What the check accepts and refuses, exactly and by relations, is `CheckIsExact` (Rules).
 use Rattle.std.specs.Prelude.{◌≡◌, true, false, List, ℕ, ◌<◌, ◌≤◌, length}
 use Rattle.tables.specs.declared.Checked.TheVariants.{Accepted}

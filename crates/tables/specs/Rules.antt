@@ -1,5 +1,5 @@
 -- Document 01, "Table records" and "From the input": where a table breaks each of the rules 3 to 9, and what the check answers. Each rule is a relation in its
--- words, over the bytes of a table or the list of its records. `check-exact` (proofs/Rules/Exact) proves that the check answers so.
+-- words, over the bytes of a table or the list of its records. `check_exact` (proofs/Rules/Exact) proves that the check answers so.
 use Rattle.std.specs.Prelude.{◌≡◌, true, ◌⊎◌, ◌↔◌, List, [], ◌∷◌, ◌++◌, ℕ, zero, suc, ◌+◌, ◌*◌, ◌<◌, ◌≤◌, length, drop}
 use Rattle.integers.specs.Bytes.{word}
 use Rattle.integers.specs.Whole.{InRange}

@@ -247,7 +247,7 @@ higher_flip v w e = order_flip v w ∙ ap flip e
 pub asymmetric : (v w : Value) → order v w ≡ Lower → order w v ≡ Lower → ⊥
 asymmetric v w p q = lower_higher q (lower_flip v w p)
 
--- THEOREM: of any two values the first is lower, or they are equal, or the second is lower. (By `lower-same`, `irreflexive` and
+-- THEOREM: of any two values the first is lower, or they are equal, or the second is lower. (By `lower_same`, `irreflexive` and
 -- `asymmetric` no two of these hold.)
 trichotomy : (v w : Value) → (order v w ≡ Lower) ⊎ ((v ≡ w) ⊎ (order w v ≡ Lower))
 trichotomy v w = go (order v w) refl

@@ -1,4 +1,4 @@
--- The cycle of the evaluator: each member is proved in a module of its own.
+-- The cycle of the evaluator, member by member.
 use Prim.Native.Nat.{◌+◌}
 use native.Mathlib.Omega.{arith}
 use mathlib.Core.Path.{refl, sym, subst, ap, ◌∙◌}
