@@ -17,10 +17,10 @@ use Rattle.tables.specs.Check.{check}
 use Rattle.tables.specs.declared.Checked.TheVariants.{Accepted}
 use Rattle.meaning.specs.State.{unbound}
 use Rattle.meaning.specs.Read.{sheet}
-use Rattle.meaning.specs.Laws.Sure.{Sure, sure_meaning}
+use Rattle.meaning.proofs.Laws.Sure.{Sure, sure_meaning}
 use Rattle.meaning.specs.Answer.{weight, uncounted}
 use Rattle.meaning.specs.Service.{tree, last, runs}
-use Rattle.meaning.specs.Laws.ReadBack.{Fits, fits_runs}
+use Rattle.meaning.proofs.Laws.ReadBack.{Fits, fits_runs}
 use Rattle.evaluator.specs.declared.Outcome.{Outcome}
 use Rattle.evaluator.specs.declared.Outcome.TheVariants.{Value as HasValue, Refused}
 use Rattle.evaluator.specs.Contract.{Evaluated, Comes, gave, off, ended}
