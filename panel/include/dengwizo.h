@@ -1,6 +1,6 @@
 /* Dengwizo: a proved evaluator for step sheets, on lent bytes and numbers.
  *
- * Link libservices.a (`rt staticlib services` writes it to target/staticlib; x86-64, and nothing but a C library's
+ * Link libservices.a (`rt lib` in crates/services writes it to out/ there; x86-64, and nothing but a C library's
  * memory functions besides).
  *
  * Lending. A buffer is a pointer, never null, and its length, for which the pointer must be valid; a length of 0 is

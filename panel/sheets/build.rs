@@ -1,7 +1,7 @@
 //! Links the archive of the proved services, which `links` in Cargo.toml names.
 //!
-//! It is taken from `target/staticlib` of the repository, where `rt staticlib` makes it if it is missing. The variable
-//! `DENGWIZO_ARCHIVES` names another folder to take it from.
+//! It is taken from `out/` of its crate, where `rt lib` makes it if it is missing. The variable `DENGWIZO_ARCHIVES` names
+//! another folder to take it from.
 
 use std::env;
 use std::io;
@@ -18,18 +18,19 @@ fn main() {
         .expect("the repository");
     let given = env::var_os(FOLDER).map(PathBuf::from);
     let is_given = given.is_some();
-    let folder = given.unwrap_or_else(|| repository.join("target/staticlib"));
+    let home = repository.join("crates").join(&name);
+    let folder = given.unwrap_or_else(|| home.join("out"));
     let archive = folder.join(format!("lib{name}.a"));
     println!("cargo:rerun-if-env-changed={FOLDER}");
     println!("cargo:rerun-if-changed={}", archive.display());
 
     if !archive.is_file() && !is_given {
         // A failure shows as the archive that is still missing.
-        let _ = make(&name, repository);
+        let _ = make(&home);
     }
     if !archive.is_file() {
         let archive = archive.display();
-        eprintln!("error: {archive} is missing: run `rt staticlib {name}` in the repository");
+        eprintln!("error: {archive} is missing: run `rt lib` in crates/{name}");
         exit(1);
     }
     println!("cargo:rustc-link-search=native={}", folder.display());
@@ -37,12 +38,9 @@ fn main() {
     println!("cargo:rustc-env=ARCHIVE={}", archive.display());
 }
 
-/// Has the archive made.
-fn make(name: &str, repository: &Path) -> io::Result<()> {
-    let made = Command::new("rt")
-        .args(["staticlib", name])
-        .current_dir(repository)
-        .output()?;
+/// Has the archive made, in the folder of its crate.
+fn make(home: &Path) -> io::Result<()> {
+    let made = Command::new("rt").arg("lib").current_dir(home).output()?;
     eprint!("{}", String::from_utf8_lossy(&made.stdout));
     eprint!("{}", String::from_utf8_lossy(&made.stderr));
     Ok(())

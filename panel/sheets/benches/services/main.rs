@@ -475,7 +475,7 @@ fn unions() -> [Row; 3] {
 /// The walk programs; no row where ours is not built.
 fn prints() -> Vec<Row> {
     if programs::ours().is_none() {
-        eprintln!("target/bin/walk is missing, so it is not measured: run `rt check walk`");
+        eprintln!("crates/walk/out/walk is missing, so it is not measured: run `rt run </dev/null` in crates/walk");
         return Vec::new();
     }
     [

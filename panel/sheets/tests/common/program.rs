@@ -14,7 +14,7 @@ pub fn repository() -> &'static Path {
 /// The walk program, or the one that the variable `DENGWIZO_WALK` names; nothing where it is not built.
 pub fn built() -> Option<PathBuf> {
     let given = env::var_os("DENGWIZO_WALK").map(PathBuf::from);
-    let program = given.unwrap_or_else(|| repository().join("target/bin/walk"));
+    let program = given.unwrap_or_else(|| repository().join("crates/walk/out/walk"));
     program.is_file().then_some(program)
 }
 

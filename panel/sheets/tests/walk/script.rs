@@ -3,22 +3,25 @@
 use crate::common::program::{repository, run};
 use std::fs;
 use std::os::unix::fs::symlink;
-use std::path::{Path, PathBuf};
+use std::path::PathBuf;
 use std::process::Command;
 
 /// What the script needs besides `rt` and `cargo`.
-const TOOLS: [&str; 17] = [
-    "awk", "bash", "cat", "cp", "dirname", "env", "find", "flock", "grep", "mkdir", "mktemp",
-    "readlink", "rm", "sh", "tail", "tee", "touch",
+const TOOLS: [&str; 16] = [
+    "bash", "cat", "cp", "dirname", "env", "find", "flock", "grep", "mkdir", "mktemp", "readlink",
+    "rm", "sh", "tail", "tee", "touch",
 ];
 
-/// Proves two crates, and links a program that prints its input.
-const RT: &str = "echo \"$*\" >>rt-calls
-echo 'fn prelude::first: proved'
-echo 'rt: prelude proved (unchanged since it was last proved)'
-echo 'rt: walk proved (3 s)'
-mkdir -p target/bin
-cp cat-input target/bin/walk
+/// Proves two crates, builds a program that prints its input, and runs it.
+const RT: &str = "echo \"$*\" >>../../rt-calls
+echo 'rt: waiting for another rt to finish' >&2
+echo 'fn prelude::first: proved' >&2
+echo 'logic=proved functions=1' >&2
+echo 'crate walk: modules loaded=1 checked=1' >&2
+echo 'logic=proved functions=0' >&2
+mkdir -p out
+cp ../../cat-input out/walk
+echo 'refused 3 0'
 ";
 
 /// Builds a tool that takes any text for a table, but for one with a mistake.
@@ -36,6 +39,7 @@ esac
 echo \"$1 $text\"
 ";
 
+/// It stands outside this one, in which `rt ci` takes no second crates.txt.
 struct Repository(PathBuf);
 
 /// What a call wrote, and its status.
@@ -48,9 +52,12 @@ struct Ended {
 
 impl Repository {
     fn new(name: &str) -> Repository {
-        let root = Path::new(env!("CARGO_TARGET_TMPDIR")).join(name);
-        let _ = fs::remove_dir_all(&root);
-        for folder in ["bin", "crates/walk", "panel/records", "panel/forms"] {
+        let name = format!("walk-{}-{name}", std::process::id());
+        let root = std::env::temp_dir().join(name);
+        for folder in ["src", "specs", "proofs"] {
+            fs::create_dir_all(root.join("crates/walk").join(folder)).expect("a folder");
+        }
+        for folder in ["bin", "panel/records", "panel/forms"] {
             fs::create_dir_all(root.join(folder)).expect("a folder");
         }
         let made = Repository(root);
@@ -108,6 +115,12 @@ impl Repository {
     }
 }
 
+impl Drop for Repository {
+    fn drop(&mut self) {
+        let _ = fs::remove_dir_all(&self.0);
+    }
+}
+
 fn found(tool: &str) -> PathBuf {
     let path = std::env::var_os("PATH").expect("a path");
     let mut files = std::env::split_paths(&path).map(|folder| folder.join(tool));
@@ -133,9 +146,9 @@ fn refused(status: i32, line: &str) -> Ended {
 }
 
 const PROGRESS: [&str; 3] = [
-    "walk: proving the program: 2 crates, each once; this takes some minutes",
-    "walk:  1 of 2: prelude, proved before",
-    "walk:  2 of 2: walk, 3 s",
+    "walk: proving the program, each crate once; this takes some minutes",
+    "walk: proved prelude",
+    "walk: proved walk",
 ];
 
 #[test]
@@ -147,10 +160,10 @@ fn the_first_call_builds_and_later_ones_do_not() {
     assert_eq!(made.walk(&[], "input"), printed("input", &[]));
     assert_eq!(made.walk(&["-"], "input"), printed("input", &[]));
     assert_eq!(made.rt_calls(), 1);
-    made.write("crates/walk/main.rt", "changed");
+    made.write("crates/walk/src/main.rt", "changed");
     assert_eq!(made.walk(&[], "input"), printed("input", &PROGRESS));
     assert_eq!(made.walk(&[], "input"), printed("input", &[]));
-    made.remove("crates/walk/main.rt");
+    made.remove("crates/walk/src/main.rt");
     assert_eq!(made.walk(&[], "input"), printed("input", &PROGRESS));
     assert_eq!(made.rt_calls(), 3);
 }
@@ -199,7 +212,7 @@ fn tools_that_are_missing() {
     assert_eq!(made.walk(&[], "input"), printed("input", &[]));
     made.remove("bin/rt");
     assert_eq!(made.walk(&[], "input"), printed("input", &[]));
-    made.remove("target/bin/walk");
+    made.remove("crates/walk/out/walk");
     let line = "walk: rt is not on the PATH: the program is built with the Rattle kit";
     assert_eq!(made.walk(&[], "input"), refused(1, line));
 }
@@ -207,15 +220,19 @@ fn tools_that_are_missing() {
 #[test]
 fn a_proof_that_fails() {
     let made = Repository::new("no-proof");
-    let wrong = "echo 'a.antt:1:2: error: wrong'
-echo 'logic=not-proved'
-echo 'rt: FAILED: walk'
+    let wrong = "echo 'fn walk::first: not proved' >&2
+echo 'a.antt:1:2: error: wrong' >&2
+echo 'logic=not-proved' >&2
+echo 'rt: the library walk did not build, so nothing above it was checked' >&2
 exit 1
 ";
     made.program("bin/rt", wrong);
     let ended = made.walk(&[], "input");
     assert_eq!((ended.status, ended.output), (Some(1), String::new()));
-    let told = ["a.antt:1:2: error: wrong", "rt: FAILED: walk"];
+    let told = [
+        "a.antt:1:2: error: wrong",
+        "rt: the library walk did not build, so nothing above it was checked",
+    ];
     assert_eq!(ended.errors[1..3], told);
     assert!(ended.errors[3].starts_with("walk: rt could not prove the program"));
 }
@@ -225,9 +242,9 @@ exit 1
 fn a_program_that_fails() {
     let made = Repository::new("failing");
     made.walk(&[], "");
-    made.program("target/bin/walk", "echo 'walk: input is gone' >&2\n");
+    made.program("crates/walk/out/walk", "echo 'walk: input is gone' >&2\n");
     assert_eq!(made.walk(&[], ""), refused(1, "walk: input is gone"));
-    made.program("target/bin/walk", "kill -PIPE $$\n");
+    made.program("crates/walk/out/walk", "exit 141\n");
     let ended = made.walk(&[], "");
     assert_eq!((ended.status, ended.errors), (Some(141), vec![]));
 }
