@@ -244,7 +244,7 @@ fn a_program_that_fails() {
     made.walk(&[], "");
     made.program("crates/walk/out/walk", "echo 'walk: input is gone' >&2\n");
     assert_eq!(made.walk(&[], ""), refused(1, "walk: input is gone"));
-    made.program("crates/walk/out/walk", "exit 141\n");
+    made.program("crates/walk/out/walk", "kill -PIPE $$\n");
     let ended = made.walk(&[], "");
     assert_eq!((ended.status, ended.errors), (Some(141), vec![]));
 }
