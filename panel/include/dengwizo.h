@@ -1,7 +1,7 @@
 /* Dengwizo: a proved evaluator for step sheets, on lent bytes and numbers.
  *
- * Link libservices.a (`rt lib` in crates/services writes it to out/ there; x86-64, and nothing but a C library's
- * memory functions besides).
+ * Link libservices.a (building panel/ makes it, in target/staticlib; x86-64, and nothing but a C library's memory
+ * functions besides).
  *
  * Lending. A buffer is a pointer, never null, and its length, for which the pointer must be valid; a length of 0 is
  * allowed. No two buffers of a call may overlap, nor may a walk's length lie in one of them. Nothing else is asked: a

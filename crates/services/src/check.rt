@@ -9,8 +9,7 @@ use values::Value;
 use walks::pack;
 
 // Checks a table.
-#[unsafe(no_mangle)]
-pub extern "C" fn dengwizo_check(table: &[u8], scratch: &mut [u8]) -> u64
+pub fn dengwizo_check(table: &[u8], scratch: &mut [u8]) -> u64
     ensures { check_call table.now scratch.old ≡ record { answer = result; scratch = scratch.new } }
 {
     let mut index = [0u32; MOST_RECORDS];

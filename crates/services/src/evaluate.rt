@@ -51,13 +51,7 @@ fn hand_none(number: usize, res: &mut [u8])
 }
 
 // Evaluates a table under a choice list.
-#[unsafe(no_mangle)]
-pub extern "C" fn dengwizo_evaluate(
-    table: &[u8],
-    list: &[u8],
-    scratch: &mut [u8],
-    res: &mut [u8],
-) -> u64
+pub fn dengwizo_evaluate(table: &[u8], list: &[u8], scratch: &mut [u8], res: &mut [u8]) -> u64
     ensures { evaluate_call table.now list.now scratch.old res.old ≡ record { answer = result; scratch = scratch.new; buffer = res.new } }
 {
     let mut index = [0u32; MOST_RECORDS];

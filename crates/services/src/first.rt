@@ -34,8 +34,7 @@ fn first_accepted(
 }
 
 // Gives the first choice list of a table.
-#[unsafe(no_mangle)]
-pub extern "C" fn dengwizo_first(
+pub fn dengwizo_first(
     table: &[u8],
     entries: &mut [u8],
     length: &mut usize,

@@ -40,8 +40,7 @@ fn step_accepted(
 }
 
 // Steps to the next choice list of a table.
-#[unsafe(no_mangle)]
-pub extern "C" fn dengwizo_step(
+pub fn dengwizo_step(
     table: &[u8],
     entries: &mut [u8],
     length: &mut usize,
