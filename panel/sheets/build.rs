@@ -30,7 +30,9 @@ fn main() {
     }
     if !archive.is_file() {
         let archive = archive.display();
-        eprintln!("error: {archive} is missing: `rt lib` in crates/{name}_c makes what it is a copy of");
+        eprintln!(
+            "error: {archive} is missing: `rt lib` in crates/{name}_c makes what it is a copy of"
+        );
         exit(1);
     }
     println!("cargo:rustc-link-search=native={}", folder.display());

@@ -458,6 +458,16 @@ binder_is {table} {index} {r} {kind} ask e =
       body = body_role (record_at (records table) r) (fit_here ask) binder;
     }
 
+-- The names of a binder's pattern, and what has been gathered before its first operand.
+module _ {table index : List ℕ} {r kind : ℕ} {left below frees : List ℕ} (ask : AskKind table index r kind left below frees) (binder : is_binder kind ≡ true) where
+  pub binder_names : {p names : ℕ} → p ≡ operand (record_at (records table) r) 0 → names ≡ names_of below r p → Names (records table) r names
+  binder_names is e = pattern_names ask.ask.kept ask.ask.here.within (omega (arith, (binder_is ask binder).some_named)) is e
+
+  pub binder_start : {names choice : ℕ} {s : Sum} → Names (records table) r names → choice ≡ choice_of kind names → s ≡ alone_of 0 choice → Gathers (records table) r frees (choice_of kind names) left s 0
+  binder_start {names} {s = s} are e f =
+      let b = binder_is ask binder in
+      gathers_start (records table) r left frees 0 (choice_of kind names) s ask.ask.here.within ask.ask.left_is b.own_is names are (b.free names) (f ∙ ap (alone_of 0) e)
+
 -- A record without operands.
 pub leaf_sums : (rs : List Record) (r : ℕ) (left frees : List ℕ) (s : Sum) (free : ℕ) → r < length rs → NoOperand (kind_at rs r) → Left rs left r (all_named (take r rs)) → free ≡ free_own (record_at rs r) 0 → s ≡ alone_of 0 free → Gathered rs r left frees s
 leaf_sums rs r left frees s free h b l f e =

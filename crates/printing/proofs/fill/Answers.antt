@@ -1,6 +1,5 @@
 -- As many lines as fit: the piece and what is to come stay together what they were.
 use mathlib.Core.Path.{sym, ◌∙◌}
-use Prim.Native.Nat.{◌-◌}
 use native.Mathlib.Omega.{arith}
 use Rattle.printing.proofs.Filling.{filling_start, filling_full, filling_ready, filling_few, filling_more, filling_end}
 use Rattle.printing.proofs.fill.Goals as goal

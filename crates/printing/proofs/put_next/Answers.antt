@@ -2,7 +2,7 @@
 use native.Mathlib.Omega.{arith}
 use Rattle.lists.specs.Lent.{lent}
 use Rattle.walks.proofs.Settling.{comes_sound}
-use Rattle.printing.proofs.Lining.{Told, told, used_all, list_inside, line_room, ready_due, lined}
+use Rattle.printing.proofs.Lining.{told, used_all, list_inside, line_room, ready_due, lined}
 use Rattle.printing.proofs.put_next.Goals as goal
 
 pub run_sheet-o-requires : goal.run_sheet-o-requires
@@ -14,20 +14,20 @@ list_of-list-requires c = comes_sound c.run_sheet-o.ensures
 
 pub slice_bounds-entries-end : goal.slice_bounds-entries-end
 slice_bounds-entries-end c =
-    let told_here : Told c.args.table.now c.run_sheet-o.new.s c.run_sheet-o.new.run c.run_sheet-o.result c.args.p.lists = told c.args.table.now c.run_sheet-o.new.s c.run_sheet-o.new.run c.run_sheet-o.result c.args.p.lists (lent c.args.run.now) (ready_due c.args.table.now c.args.index.now c.args.count c.args.s.now c.args.run.now c.args.out.now c.args.p c.requires.0 c.requires.1) c.run_sheet-o.ensures in
+    let told_here = told c.args.table.now c.run_sheet-o.new.s c.run_sheet-o.new.run c.run_sheet-o.result c.args.p.lists (lent c.args.run.now) (ready_due c.args.table.now c.args.index.now c.args.count c.args.s.now c.args.run.now c.args.out.now c.args.p c.requires.0 c.requires.1) c.run_sheet-o.ensures in
     list_inside c.args.table.now c.run_sheet-o.new.s c.run_sheet-o.new.run c.run_sheet-o.result c.args.p.lists told_here c.list_of-list.result c.list_of-list.ensures
 
 pub put_line-at-requires : goal.put_line-at-requires
 put_line-at-requires c =
-    let told_here : Told c.args.table.now c.run_sheet-o.new.s c.run_sheet-o.new.run c.run_sheet-o.result c.args.p.lists = told c.args.table.now c.run_sheet-o.new.s c.run_sheet-o.new.run c.run_sheet-o.result c.args.p.lists (lent c.args.run.now) (ready_due c.args.table.now c.args.index.now c.args.count c.args.s.now c.args.run.now c.args.out.now c.args.p c.requires.0 c.requires.1) c.run_sheet-o.ensures in
+    let told_here = told c.args.table.now c.run_sheet-o.new.s c.run_sheet-o.new.run c.run_sheet-o.result c.args.p.lists (lent c.args.run.now) (ready_due c.args.table.now c.args.index.now c.args.count c.args.s.now c.args.run.now c.args.out.now c.args.p c.requires.0 c.requires.1) c.run_sheet-o.ensures in
     line_room c.args.table.now c.run_sheet-o.new.s c.run_sheet-o.new.run c.run_sheet-o.result c.args.p.lists told_here c.list_of-list.result c.list_of-list.ensures c.number.result c.number.ensures c.args.out.now c.args.p.at c.requires.0.room
 
 pub advance-more-requires : goal.advance-more-requires
 advance-more-requires c =
-    let told_here : Told c.args.table.now c.run_sheet-o.new.s c.run_sheet-o.new.run c.run_sheet-o.result c.args.p.lists = told c.args.table.now c.run_sheet-o.new.s c.run_sheet-o.new.run c.run_sheet-o.result c.args.p.lists (lent c.args.run.now) (ready_due c.args.table.now c.args.index.now c.args.count c.args.s.now c.args.run.now c.args.out.now c.args.p c.requires.0 c.requires.1) c.run_sheet-o.ensures in
+    let told_here = told c.args.table.now c.run_sheet-o.new.s c.run_sheet-o.new.run c.run_sheet-o.result c.args.p.lists (lent c.args.run.now) (ready_due c.args.table.now c.args.index.now c.args.count c.args.s.now c.args.run.now c.args.out.now c.args.p c.requires.0 c.requires.1) c.run_sheet-o.ensures in
     used_all c.args.table.now c.run_sheet-o.new.s c.run_sheet-o.new.run c.run_sheet-o.result c.args.p.lists told_here
 
 pub returns : goal.returns
 returns c =
-    let told_here : Told c.args.table.now c.run_sheet-o.new.s c.run_sheet-o.new.run c.run_sheet-o.result c.args.p.lists = told c.args.table.now c.run_sheet-o.new.s c.run_sheet-o.new.run c.run_sheet-o.result c.args.p.lists (lent c.args.run.now) (ready_due c.args.table.now c.args.index.now c.args.count c.args.s.now c.args.run.now c.args.out.now c.args.p c.requires.0 c.requires.1) c.run_sheet-o.ensures in
+    let told_here = told c.args.table.now c.run_sheet-o.new.s c.run_sheet-o.new.run c.run_sheet-o.result c.args.p.lists (lent c.args.run.now) (ready_due c.args.table.now c.args.index.now c.args.count c.args.s.now c.args.run.now c.args.out.now c.args.p c.requires.0 c.requires.1) c.run_sheet-o.ensures in
     lined c.args.table.now c.args.index.now c.args.count c.args.s.now c.args.run.now c.args.out.now c.args.p c.requires.0 c.requires.1 c.run_sheet-o.new.s c.run_sheet-o.new.run c.run_sheet-o.result told_here c.list_of-list.result c.list_of-list.ensures c.number.result c.number.ensures c.put_line-at.new.out c.put_line-at.result c.put_line-at.ensures c.advance-more.new.run c.advance-more.result c.advance-more.ensures c.run_sheet-o.auto.s _ (omega arith)

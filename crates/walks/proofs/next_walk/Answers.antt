@@ -4,8 +4,8 @@ use Prim.Native.Nat.{◌-◌}
 use native.Mathlib.Omega.{arith}
 use Rattle.choices.specs.Listing.{list_held}
 use Rattle.lists.specs.Lent.{lent}
-use Rattle.walks.specs.Steps.{settled, Ran}
-use Rattle.walks.proofs.Settling.{comes_sound, Arrived, arrived, ran, small_ran}
+use Rattle.walks.specs.Steps.{settled}
+use Rattle.walks.proofs.Settling.{comes_sound, arrived, ran, small_ran}
 use Rattle.walks.proofs.Stepping.{asked, count_all, count_some, at-end, complete_ran, steps_other, steps_on}
 use Rattle.walks.proofs.next_walk.Goals as goal
 
@@ -25,20 +25,20 @@ settle-ran-requires c = comes_sound c.run_sheet-o.ensures
 
 pub pack_outcome-requires : goal.pack_outcome-requires
 pack_outcome-requires c =
-    let came_here : Arrived c.args.table.now (lent c.start_walk-run.result) c.run_sheet-o.result (lent c.run_sheet-o.new.run) c.run_sheet-o.new.s = arrived c.args.table.now (lent c.start_walk-run.result) c.run_sheet-o.result (lent c.run_sheet-o.new.run) c.run_sheet-o.new.s c.run_sheet-o.ensures in
-    let ran_here : Ran c.args.table.now (list_held c.args.walk) c.run_sheet-o.new.s c.settle-ran.result = ran c.args.table.now (list_held c.args.walk) (lent c.start_walk-run.result) c.run_sheet-o.result (lent c.run_sheet-o.new.run) c.run_sheet-o.new.s c.start_walk-run.ensures came_here c.settle-ran.result (c.settle-ran.ensures ∙ ap (λ n. settled c.run_sheet-o.result (lent c.run_sheet-o.new.run) (n - 1)) (count_all c.args.table.now c.args.index.now c.args.count c.args.s.now c.requires.indexes)) in
+    let came_here = arrived c.args.table.now (lent c.start_walk-run.result) c.run_sheet-o.result (lent c.run_sheet-o.new.run) c.run_sheet-o.new.s c.run_sheet-o.ensures in
+    let ran_here = ran c.args.table.now (list_held c.args.walk) (lent c.start_walk-run.result) c.run_sheet-o.result (lent c.run_sheet-o.new.run) c.run_sheet-o.new.s c.start_walk-run.ensures came_here c.settle-ran.result (c.settle-ran.ensures ∙ ap (λ n. settled c.run_sheet-o.result (lent c.run_sheet-o.new.run) (n - 1)) (count_all c.args.table.now c.args.index.now c.args.count c.args.s.now c.requires.indexes)) in
     small_ran c.args.table.now (list_held c.args.walk) c.run_sheet-o.new.s c.args.count c.settle-ran.result c.requires.indexes.ok ran_here
 
 pub returns-then-not-is_whole : goal.returns-then-not-is_whole
 returns-then-not-is_whole c =
-    let came_here : Arrived c.args.table.now (lent c.start_walk-run.result) c.run_sheet-o.result (lent c.run_sheet-o.new.run) c.run_sheet-o.new.s = arrived c.args.table.now (lent c.start_walk-run.result) c.run_sheet-o.result (lent c.run_sheet-o.new.run) c.run_sheet-o.new.s c.run_sheet-o.ensures in
-    let ran_here : Ran c.args.table.now (list_held c.args.walk) c.run_sheet-o.new.s c.settle-ran.result = ran c.args.table.now (list_held c.args.walk) (lent c.start_walk-run.result) c.run_sheet-o.result (lent c.run_sheet-o.new.run) c.run_sheet-o.new.s c.start_walk-run.ensures came_here c.settle-ran.result (c.settle-ran.ensures ∙ ap (λ n. settled c.run_sheet-o.result (lent c.run_sheet-o.new.run) (n - 1)) (count_all c.args.table.now c.args.index.now c.args.count c.args.s.now c.requires.indexes)) in
+    let came_here = arrived c.args.table.now (lent c.start_walk-run.result) c.run_sheet-o.result (lent c.run_sheet-o.new.run) c.run_sheet-o.new.s c.run_sheet-o.ensures in
+    let ran_here = ran c.args.table.now (list_held c.args.walk) (lent c.start_walk-run.result) c.run_sheet-o.result (lent c.run_sheet-o.new.run) c.run_sheet-o.new.s c.start_walk-run.ensures came_here c.settle-ran.result (c.settle-ran.ensures ∙ ap (λ n. settled c.run_sheet-o.result (lent c.run_sheet-o.new.run) (n - 1)) (count_all c.args.table.now c.args.index.now c.args.count c.args.s.now c.requires.indexes)) in
     steps_other c.args.table.now c.run_sheet-o.new.s c.args.walk c.settle-ran.result ran_here c.requires.runnable (sym c.is_whole.ensures ∙ c.if-not-is_whole.true) c.pack_outcome.result c.pack_outcome.ensures
 
 pub next_list-requires : goal.next_list-requires
 next_list-requires c =
-    let came_here : Arrived c.args.table.now (lent c.start_walk-run.result) c.run_sheet-o.result (lent c.run_sheet-o.new.run) c.run_sheet-o.new.s = arrived c.args.table.now (lent c.start_walk-run.result) c.run_sheet-o.result (lent c.run_sheet-o.new.run) c.run_sheet-o.new.s c.run_sheet-o.ensures in
-    let ran_here : Ran c.args.table.now (list_held c.args.walk) c.run_sheet-o.new.s c.settle-ran.result = ran c.args.table.now (list_held c.args.walk) (lent c.start_walk-run.result) c.run_sheet-o.result (lent c.run_sheet-o.new.run) c.run_sheet-o.new.s c.start_walk-run.ensures came_here c.settle-ran.result (c.settle-ran.ensures ∙ ap (λ n. settled c.run_sheet-o.result (lent c.run_sheet-o.new.run) (n - 1)) (count_all c.args.table.now c.args.index.now c.args.count c.args.s.now c.requires.indexes)) in
+    let came_here = arrived c.args.table.now (lent c.start_walk-run.result) c.run_sheet-o.result (lent c.run_sheet-o.new.run) c.run_sheet-o.new.s c.run_sheet-o.ensures in
+    let ran_here = ran c.args.table.now (list_held c.args.walk) (lent c.start_walk-run.result) c.run_sheet-o.result (lent c.run_sheet-o.new.run) c.run_sheet-o.new.s c.start_walk-run.ensures came_here c.settle-ran.result (c.settle-ran.ensures ∙ ap (λ n. settled c.run_sheet-o.result (lent c.run_sheet-o.new.run) (n - 1)) (count_all c.args.table.now c.args.index.now c.args.count c.args.s.now c.requires.indexes)) in
     let h = ran_here in
     let a = came_here in
     let full = complete_ran c.args.table.now (list_held c.args.walk) c.run_sheet-o.new.s c.settle-ran.result h (sym c.is_whole.ensures ∙ c.if-not-is_whole.false) in
@@ -53,6 +53,6 @@ next_list-requires c =
 
 pub returns : goal.returns
 returns c =
-    let came_here : Arrived c.args.table.now (lent c.start_walk-run.result) c.run_sheet-o.result (lent c.run_sheet-o.new.run) c.run_sheet-o.new.s = arrived c.args.table.now (lent c.start_walk-run.result) c.run_sheet-o.result (lent c.run_sheet-o.new.run) c.run_sheet-o.new.s c.run_sheet-o.ensures in
-    let ran_here : Ran c.args.table.now (list_held c.args.walk) c.run_sheet-o.new.s c.settle-ran.result = ran c.args.table.now (list_held c.args.walk) (lent c.start_walk-run.result) c.run_sheet-o.result (lent c.run_sheet-o.new.run) c.run_sheet-o.new.s c.start_walk-run.ensures came_here c.settle-ran.result (c.settle-ran.ensures ∙ ap (λ n. settled c.run_sheet-o.result (lent c.run_sheet-o.new.run) (n - 1)) (count_all c.args.table.now c.args.index.now c.args.count c.args.s.now c.requires.indexes)) in
+    let came_here = arrived c.args.table.now (lent c.start_walk-run.result) c.run_sheet-o.result (lent c.run_sheet-o.new.run) c.run_sheet-o.new.s c.run_sheet-o.ensures in
+    let ran_here = ran c.args.table.now (list_held c.args.walk) (lent c.start_walk-run.result) c.run_sheet-o.result (lent c.run_sheet-o.new.run) c.run_sheet-o.new.s c.start_walk-run.ensures came_here c.settle-ran.result (c.settle-ran.ensures ∙ ap (λ n. settled c.run_sheet-o.result (lent c.run_sheet-o.new.run) (n - 1)) (count_all c.args.table.now c.args.index.now c.args.count c.args.s.now c.requires.indexes)) in
     steps_on c.args.table.now c.run_sheet-o.new.s c.args.walk c.settle-ran.result ran_here (sym c.is_whole.ensures ∙ c.if-not-is_whole.false) c.next_list.result c.next_list.ensures

@@ -1,9 +1,7 @@
 -- The pattern, the set or value and the third operand, and then the bodies, one after the other.
-use mathlib.Core.Path.{ap, ◌∙◌}
+use mathlib.Core.Path.{◌∙◌}
 use native.Mathlib.Omega.{arith}
-use Rattle.tables.specs.Accepted.{records}
-use Rattle.checking.specs.Sweeps.{choice_of, alone_of, Names}
-use Rattle.checking.proofs.Gathering.{Gathers, gathers_start, gathers_end, ask_operand, operand_more, operand_stops, kind_most, pattern_names, binder_is}
+use Rattle.checking.proofs.Gathering.{gathers_end, ask_operand, operand_more, operand_stops, kind_most, binder_is, binder_names, binder_start}
 use Rattle.checking.proofs.sweep.bind.Goals as goal
 
 pub operand_from-p-requires : goal.operand_from-p-requires
@@ -18,15 +16,15 @@ role_of-role-requires c = (kind_most c.requires.0, omega (arith, (binder_is c.re
 
 pub add_operand-s-requires : goal.add_operand-s-requires
 add_operand-s-requires c =
-    let names_are : Names (records c.args.table.now) c.args.r c.names_of-names.result = pattern_names c.requires.0.ask.kept c.requires.0.ask.here.within (omega (arith, (binder_is c.requires.0 c.requires.1).some_named)) c.operand_from-p.ensures.0 c.names_of-names.ensures in
-    let none_yet : Gathers (records c.args.table.now) c.args.r c.args.frees.now (choice_of c.args.kind c.names_of-names.result) c.args.left.now c.alone-s.result 0 = gathers_start (records c.args.table.now) c.args.r c.args.left.now c.args.frees.now 0 (choice_of c.args.kind c.names_of-names.result) c.alone-s.result c.requires.0.ask.here.within c.requires.0.ask.left_is (binder_is c.requires.0 c.requires.1).own_is c.names_of-names.result names_are ((binder_is c.requires.0 c.requires.1).free c.names_of-names.result) (c.alone-s.ensures ∙ ap (alone_of 0) c.choice.ensures) in
-    ask_operand c.operand_from-p.result c.requires.0.ask.here none_yet c.operand_from-p.ensures.1
+    let names = binder_names c.requires.0 c.requires.1 c.operand_from-p.ensures.0 c.names_of-names.ensures in
+    let none = binder_start c.requires.0 c.requires.1 names c.choice.ensures c.alone-s.ensures in
+    ask_operand c.operand_from-p.result c.requires.0.ask.here none c.operand_from-p.ensures.1
 
 pub returns-then-not-fine : goal.returns-then-not-fine
 returns-then-not-fine c =
-    let names_are : Names (records c.args.table.now) c.args.r c.names_of-names.result = pattern_names c.requires.0.ask.kept c.requires.0.ask.here.within (omega (arith, (binder_is c.requires.0 c.requires.1).some_named)) c.operand_from-p.ensures.0 c.names_of-names.ensures in
-    let none_yet : Gathers (records c.args.table.now) c.args.r c.args.frees.now (choice_of c.args.kind c.names_of-names.result) c.args.left.now c.alone-s.result 0 = gathers_start (records c.args.table.now) c.args.r c.args.left.now c.args.frees.now 0 (choice_of c.args.kind c.names_of-names.result) c.alone-s.result c.requires.0.ask.here.within c.requires.0.ask.left_is (binder_is c.requires.0 c.requires.1).own_is c.names_of-names.result names_are ((binder_is c.requires.0 c.requires.1).free c.names_of-names.result) (c.alone-s.ensures ∙ ap (alone_of 0) c.choice.ensures) in
-    operand_stops c.requires.0 names_are none_yet (omega (arith, (binder_is c.requires.0 c.requires.1).some_named)) c.operand_from-p.ensures.0 c.operand_from-p.ensures.1 (c.role_of-role.ensures ∙ (binder_is c.requires.0 c.requires.1).role 0) c.add_operand-s.ensures c.if-not-fine.true
+    let names = binder_names c.requires.0 c.requires.1 c.operand_from-p.ensures.0 c.names_of-names.ensures in
+    let none = binder_start c.requires.0 c.requires.1 names c.choice.ensures c.alone-s.ensures in
+    operand_stops c.requires.0 names none (omega (arith, (binder_is c.requires.0 c.requires.1).some_named)) c.operand_from-p.ensures.0 c.operand_from-p.ensures.1 (c.role_of-role.ensures ∙ (binder_is c.requires.0 c.requires.1).role 0) c.add_operand-s.ensures c.if-not-fine.true
 
 pub operand_from-n-requires : goal.operand_from-n-requires
 operand_from-n-requires c =
@@ -34,17 +32,17 @@ operand_from-n-requires c =
 
 pub add_operand-s-requires-2 : goal.add_operand-s-requires-2
 add_operand-s-requires-2 c =
-    let names_are : Names (records c.args.table.now) c.args.r c.names_of-names.result = pattern_names c.requires.0.ask.kept c.requires.0.ask.here.within (omega (arith, (binder_is c.requires.0 c.requires.1).some_named)) c.operand_from-p.ensures.0 c.names_of-names.ensures in
-    let none_yet : Gathers (records c.args.table.now) c.args.r c.args.frees.now (choice_of c.args.kind c.names_of-names.result) c.args.left.now c.alone-s.result 0 = gathers_start (records c.args.table.now) c.args.r c.args.left.now c.args.frees.now 0 (choice_of c.args.kind c.names_of-names.result) c.alone-s.result c.requires.0.ask.here.within c.requires.0.ask.left_is (binder_is c.requires.0 c.requires.1).own_is c.names_of-names.result names_are ((binder_is c.requires.0 c.requires.1).free c.names_of-names.result) (c.alone-s.ensures ∙ ap (alone_of 0) c.choice.ensures) in
-    let after_one : Gathers (records c.args.table.now) c.args.r c.args.frees.now (choice_of c.args.kind c.names_of-names.result) c.add_operand-s.new.left c.add_operand-s.result 1 = operand_more c.requires.0 names_are none_yet (omega (arith, (binder_is c.requires.0 c.requires.1).some_named)) c.operand_from-p.ensures.0 c.operand_from-p.ensures.1 (c.role_of-role.ensures ∙ (binder_is c.requires.0 c.requires.1).role 0) c.add_operand-s.ensures c.if-not-fine.false in
-    ask_operand c.operand_from-n.result c.requires.0.ask.here after_one c.operand_from-n.ensures.1
+    let names = binder_names c.requires.0 c.requires.1 c.operand_from-p.ensures.0 c.names_of-names.ensures in
+    let none = binder_start c.requires.0 c.requires.1 names c.choice.ensures c.alone-s.ensures in
+    let one = operand_more c.requires.0 names none (omega (arith, (binder_is c.requires.0 c.requires.1).some_named)) c.operand_from-p.ensures.0 c.operand_from-p.ensures.1 (c.role_of-role.ensures ∙ (binder_is c.requires.0 c.requires.1).role 0) c.add_operand-s.ensures c.if-not-fine.false in
+    ask_operand c.operand_from-n.result c.requires.0.ask.here one c.operand_from-n.ensures.1
 
 pub returns-then-not-fine-2 : goal.returns-then-not-fine-2
 returns-then-not-fine-2 c =
-    let names_are : Names (records c.args.table.now) c.args.r c.names_of-names.result = pattern_names c.requires.0.ask.kept c.requires.0.ask.here.within (omega (arith, (binder_is c.requires.0 c.requires.1).some_named)) c.operand_from-p.ensures.0 c.names_of-names.ensures in
-    let none_yet : Gathers (records c.args.table.now) c.args.r c.args.frees.now (choice_of c.args.kind c.names_of-names.result) c.args.left.now c.alone-s.result 0 = gathers_start (records c.args.table.now) c.args.r c.args.left.now c.args.frees.now 0 (choice_of c.args.kind c.names_of-names.result) c.alone-s.result c.requires.0.ask.here.within c.requires.0.ask.left_is (binder_is c.requires.0 c.requires.1).own_is c.names_of-names.result names_are ((binder_is c.requires.0 c.requires.1).free c.names_of-names.result) (c.alone-s.ensures ∙ ap (alone_of 0) c.choice.ensures) in
-    let after_one : Gathers (records c.args.table.now) c.args.r c.args.frees.now (choice_of c.args.kind c.names_of-names.result) c.add_operand-s.new.left c.add_operand-s.result 1 = operand_more c.requires.0 names_are none_yet (omega (arith, (binder_is c.requires.0 c.requires.1).some_named)) c.operand_from-p.ensures.0 c.operand_from-p.ensures.1 (c.role_of-role.ensures ∙ (binder_is c.requires.0 c.requires.1).role 0) c.add_operand-s.ensures c.if-not-fine.false in
-    operand_stops c.requires.0 names_are after_one (omega (arith, (binder_is c.requires.0 c.requires.1).some_named)) c.operand_from-n.ensures.0 c.operand_from-n.ensures.1 (binder_is c.requires.0 c.requires.1).second c.add_operand-s-2.ensures c.if-not-fine-2.true
+    let names = binder_names c.requires.0 c.requires.1 c.operand_from-p.ensures.0 c.names_of-names.ensures in
+    let none = binder_start c.requires.0 c.requires.1 names c.choice.ensures c.alone-s.ensures in
+    let one = operand_more c.requires.0 names none (omega (arith, (binder_is c.requires.0 c.requires.1).some_named)) c.operand_from-p.ensures.0 c.operand_from-p.ensures.1 (c.role_of-role.ensures ∙ (binder_is c.requires.0 c.requires.1).role 0) c.add_operand-s.ensures c.if-not-fine.false in
+    operand_stops c.requires.0 names one (omega (arith, (binder_is c.requires.0 c.requires.1).some_named)) c.operand_from-n.ensures.0 c.operand_from-n.ensures.1 (binder_is c.requires.0 c.requires.1).second c.add_operand-s-2.ensures c.if-not-fine-2.true
 
 pub operand_from-n-requires-2 : goal.operand_from-n-requires-2
 operand_from-n-requires-2 c =
@@ -55,31 +53,31 @@ role_of-role-requires-2 c = (kind_most c.requires.0, omega (arith, (binder_is c.
 
 pub add_operand-s-requires-3 : goal.add_operand-s-requires-3
 add_operand-s-requires-3 c =
-    let names_are : Names (records c.args.table.now) c.args.r c.names_of-names.result = pattern_names c.requires.0.ask.kept c.requires.0.ask.here.within (omega (arith, (binder_is c.requires.0 c.requires.1).some_named)) c.operand_from-p.ensures.0 c.names_of-names.ensures in
-    let none_yet : Gathers (records c.args.table.now) c.args.r c.args.frees.now (choice_of c.args.kind c.names_of-names.result) c.args.left.now c.alone-s.result 0 = gathers_start (records c.args.table.now) c.args.r c.args.left.now c.args.frees.now 0 (choice_of c.args.kind c.names_of-names.result) c.alone-s.result c.requires.0.ask.here.within c.requires.0.ask.left_is (binder_is c.requires.0 c.requires.1).own_is c.names_of-names.result names_are ((binder_is c.requires.0 c.requires.1).free c.names_of-names.result) (c.alone-s.ensures ∙ ap (alone_of 0) c.choice.ensures) in
-    let after_one : Gathers (records c.args.table.now) c.args.r c.args.frees.now (choice_of c.args.kind c.names_of-names.result) c.add_operand-s.new.left c.add_operand-s.result 1 = operand_more c.requires.0 names_are none_yet (omega (arith, (binder_is c.requires.0 c.requires.1).some_named)) c.operand_from-p.ensures.0 c.operand_from-p.ensures.1 (c.role_of-role.ensures ∙ (binder_is c.requires.0 c.requires.1).role 0) c.add_operand-s.ensures c.if-not-fine.false in
-    let after_two : Gathers (records c.args.table.now) c.args.r c.args.frees.now (choice_of c.args.kind c.names_of-names.result) c.add_operand-s-2.new.left c.add_operand-s-2.result 2 = operand_more c.requires.0 names_are after_one (omega (arith, (binder_is c.requires.0 c.requires.1).some_named)) c.operand_from-n.ensures.0 c.operand_from-n.ensures.1 (binder_is c.requires.0 c.requires.1).second c.add_operand-s-2.ensures c.if-not-fine-2.false in
-    ask_operand c.operand_from-n-2.result c.requires.0.ask.here after_two c.operand_from-n-2.ensures.1
+    let names = binder_names c.requires.0 c.requires.1 c.operand_from-p.ensures.0 c.names_of-names.ensures in
+    let none = binder_start c.requires.0 c.requires.1 names c.choice.ensures c.alone-s.ensures in
+    let one = operand_more c.requires.0 names none (omega (arith, (binder_is c.requires.0 c.requires.1).some_named)) c.operand_from-p.ensures.0 c.operand_from-p.ensures.1 (c.role_of-role.ensures ∙ (binder_is c.requires.0 c.requires.1).role 0) c.add_operand-s.ensures c.if-not-fine.false in
+    let two = operand_more c.requires.0 names one (omega (arith, (binder_is c.requires.0 c.requires.1).some_named)) c.operand_from-n.ensures.0 c.operand_from-n.ensures.1 (binder_is c.requires.0 c.requires.1).second c.add_operand-s-2.ensures c.if-not-fine-2.false in
+    ask_operand c.operand_from-n-2.result c.requires.0.ask.here two c.operand_from-n-2.ensures.1
 
 pub returns-then-not-fine-3 : goal.returns-then-not-fine-3
 returns-then-not-fine-3 c =
-    let names_are : Names (records c.args.table.now) c.args.r c.names_of-names.result = pattern_names c.requires.0.ask.kept c.requires.0.ask.here.within (omega (arith, (binder_is c.requires.0 c.requires.1).some_named)) c.operand_from-p.ensures.0 c.names_of-names.ensures in
-    let none_yet : Gathers (records c.args.table.now) c.args.r c.args.frees.now (choice_of c.args.kind c.names_of-names.result) c.args.left.now c.alone-s.result 0 = gathers_start (records c.args.table.now) c.args.r c.args.left.now c.args.frees.now 0 (choice_of c.args.kind c.names_of-names.result) c.alone-s.result c.requires.0.ask.here.within c.requires.0.ask.left_is (binder_is c.requires.0 c.requires.1).own_is c.names_of-names.result names_are ((binder_is c.requires.0 c.requires.1).free c.names_of-names.result) (c.alone-s.ensures ∙ ap (alone_of 0) c.choice.ensures) in
-    let after_one : Gathers (records c.args.table.now) c.args.r c.args.frees.now (choice_of c.args.kind c.names_of-names.result) c.add_operand-s.new.left c.add_operand-s.result 1 = operand_more c.requires.0 names_are none_yet (omega (arith, (binder_is c.requires.0 c.requires.1).some_named)) c.operand_from-p.ensures.0 c.operand_from-p.ensures.1 (c.role_of-role.ensures ∙ (binder_is c.requires.0 c.requires.1).role 0) c.add_operand-s.ensures c.if-not-fine.false in
-    let after_two : Gathers (records c.args.table.now) c.args.r c.args.frees.now (choice_of c.args.kind c.names_of-names.result) c.add_operand-s-2.new.left c.add_operand-s-2.result 2 = operand_more c.requires.0 names_are after_one (omega (arith, (binder_is c.requires.0 c.requires.1).some_named)) c.operand_from-n.ensures.0 c.operand_from-n.ensures.1 (binder_is c.requires.0 c.requires.1).second c.add_operand-s-2.ensures c.if-not-fine-2.false in
-    operand_stops c.requires.0 names_are after_two (omega (arith, (binder_is c.requires.0 c.requires.1).some_named)) c.operand_from-n-2.ensures.0 c.operand_from-n-2.ensures.1 (c.role_of-role-2.ensures ∙ (binder_is c.requires.0 c.requires.1).role 2) c.add_operand-s-3.ensures c.if-not-fine-3.true
+    let names = binder_names c.requires.0 c.requires.1 c.operand_from-p.ensures.0 c.names_of-names.ensures in
+    let none = binder_start c.requires.0 c.requires.1 names c.choice.ensures c.alone-s.ensures in
+    let one = operand_more c.requires.0 names none (omega (arith, (binder_is c.requires.0 c.requires.1).some_named)) c.operand_from-p.ensures.0 c.operand_from-p.ensures.1 (c.role_of-role.ensures ∙ (binder_is c.requires.0 c.requires.1).role 0) c.add_operand-s.ensures c.if-not-fine.false in
+    let two = operand_more c.requires.0 names one (omega (arith, (binder_is c.requires.0 c.requires.1).some_named)) c.operand_from-n.ensures.0 c.operand_from-n.ensures.1 (binder_is c.requires.0 c.requires.1).second c.add_operand-s-2.ensures c.if-not-fine-2.false in
+    operand_stops c.requires.0 names two (omega (arith, (binder_is c.requires.0 c.requires.1).some_named)) c.operand_from-n-2.ensures.0 c.operand_from-n-2.ensures.1 (c.role_of-role-2.ensures ∙ (binder_is c.requires.0 c.requires.1).role 2) c.add_operand-s-3.ensures c.if-not-fine-3.true
 
 pub operands_from-count-requires : goal.operands_from-count-requires
 operands_from-count-requires c = (c.requires.0.ask.here, (binder_is c.requires.0 c.requires.1).first)
 
 pub loop-i-init : goal.loop-i-init
 loop-i-init c =
-    let names_are : Names (records c.args.table.now) c.args.r c.names_of-names.result = pattern_names c.requires.0.ask.kept c.requires.0.ask.here.within (omega (arith, (binder_is c.requires.0 c.requires.1).some_named)) c.operand_from-p.ensures.0 c.names_of-names.ensures in
-    let none_yet : Gathers (records c.args.table.now) c.args.r c.args.frees.now (choice_of c.args.kind c.names_of-names.result) c.args.left.now c.alone-s.result 0 = gathers_start (records c.args.table.now) c.args.r c.args.left.now c.args.frees.now 0 (choice_of c.args.kind c.names_of-names.result) c.alone-s.result c.requires.0.ask.here.within c.requires.0.ask.left_is (binder_is c.requires.0 c.requires.1).own_is c.names_of-names.result names_are ((binder_is c.requires.0 c.requires.1).free c.names_of-names.result) (c.alone-s.ensures ∙ ap (alone_of 0) c.choice.ensures) in
-    let after_one : Gathers (records c.args.table.now) c.args.r c.args.frees.now (choice_of c.args.kind c.names_of-names.result) c.add_operand-s.new.left c.add_operand-s.result 1 = operand_more c.requires.0 names_are none_yet (omega (arith, (binder_is c.requires.0 c.requires.1).some_named)) c.operand_from-p.ensures.0 c.operand_from-p.ensures.1 (c.role_of-role.ensures ∙ (binder_is c.requires.0 c.requires.1).role 0) c.add_operand-s.ensures c.if-not-fine.false in
-    let after_two : Gathers (records c.args.table.now) c.args.r c.args.frees.now (choice_of c.args.kind c.names_of-names.result) c.add_operand-s-2.new.left c.add_operand-s-2.result 2 = operand_more c.requires.0 names_are after_one (omega (arith, (binder_is c.requires.0 c.requires.1).some_named)) c.operand_from-n.ensures.0 c.operand_from-n.ensures.1 (binder_is c.requires.0 c.requires.1).second c.add_operand-s-2.ensures c.if-not-fine-2.false in
-    let after_three : Gathers (records c.args.table.now) c.args.r c.args.frees.now (choice_of c.args.kind c.names_of-names.result) c.add_operand-s-3.new.left c.add_operand-s-3.result 3 = operand_more c.requires.0 names_are after_two (omega (arith, (binder_is c.requires.0 c.requires.1).some_named)) c.operand_from-n-2.ensures.0 c.operand_from-n-2.ensures.1 (c.role_of-role-2.ensures ∙ (binder_is c.requires.0 c.requires.1).role 2) c.add_operand-s-3.ensures c.if-not-fine-3.false in
-    (omega arith, after_three)
+    let names = binder_names c.requires.0 c.requires.1 c.operand_from-p.ensures.0 c.names_of-names.ensures in
+    let none = binder_start c.requires.0 c.requires.1 names c.choice.ensures c.alone-s.ensures in
+    let one = operand_more c.requires.0 names none (omega (arith, (binder_is c.requires.0 c.requires.1).some_named)) c.operand_from-p.ensures.0 c.operand_from-p.ensures.1 (c.role_of-role.ensures ∙ (binder_is c.requires.0 c.requires.1).role 0) c.add_operand-s.ensures c.if-not-fine.false in
+    let two = operand_more c.requires.0 names one (omega (arith, (binder_is c.requires.0 c.requires.1).some_named)) c.operand_from-n.ensures.0 c.operand_from-n.ensures.1 (binder_is c.requires.0 c.requires.1).second c.add_operand-s-2.ensures c.if-not-fine-2.false in
+    let three = operand_more c.requires.0 names two (omega (arith, (binder_is c.requires.0 c.requires.1).some_named)) c.operand_from-n-2.ensures.0 c.operand_from-n-2.ensures.1 (c.role_of-role-2.ensures ∙ (binder_is c.requires.0 c.requires.1).role 2) c.add_operand-s-3.ensures c.if-not-fine-3.false in
+    (omega arith, three)
 
 pub operand_from-n-requires-in-loop-i : goal.operand_from-n-requires-in-loop-i
 operand_from-n-requires-in-loop-i c =
@@ -91,8 +89,8 @@ add_operand-s-requires-in-loop-i c =
 
 pub returns-then-not-fine-4 : goal.returns-then-not-fine-4
 returns-then-not-fine-4 c =
-    let names_are : Names (records c.args.table.now) c.args.r c.names_of-names.result = pattern_names c.requires.0.ask.kept c.requires.0.ask.here.within (omega (arith, (binder_is c.requires.0 c.requires.1).some_named)) c.operand_from-p.ensures.0 c.names_of-names.ensures in
-    operand_stops c.requires.0 names_are c.loop-i.invariant.1 (omega (arith, c.loop-i-test.true, c.operands_from-count.ensures.0)) c.operand_from-n-in-loop-i.ensures.0 c.operand_from-n-in-loop-i.ensures.1 ((binder_is c.requires.0 c.requires.1).body c.loop-i.i c.loop-i.invariant.0 (omega (arith, c.loop-i-test.true, c.operands_from-count.ensures.0))) c.add_operand-s-in-loop-i.ensures c.if-not-fine-4.true
+    let names = binder_names c.requires.0 c.requires.1 c.operand_from-p.ensures.0 c.names_of-names.ensures in
+    operand_stops c.requires.0 names c.loop-i.invariant.1 (omega (arith, c.loop-i-test.true, c.operands_from-count.ensures.0)) c.operand_from-n-in-loop-i.ensures.0 c.operand_from-n-in-loop-i.ensures.1 ((binder_is c.requires.0 c.requires.1).body c.loop-i.i c.loop-i.invariant.0 (omega (arith, c.loop-i-test.true, c.operands_from-count.ensures.0))) c.add_operand-s-in-loop-i.ensures c.if-not-fine-4.true
 
 pub overflow_add-i : goal.overflow_add-i
 overflow_add-i c = omega (arith, c.loop-i-test.true, c.operands_from-count.ensures.1)
@@ -102,10 +100,10 @@ loop-i-smaller c = omega (arith, c.loop-i-test.true)
 
 pub loop-i-preserved : goal.loop-i-preserved
 loop-i-preserved c =
-    let names_are : Names (records c.args.table.now) c.args.r c.names_of-names.result = pattern_names c.requires.0.ask.kept c.requires.0.ask.here.within (omega (arith, (binder_is c.requires.0 c.requires.1).some_named)) c.operand_from-p.ensures.0 c.names_of-names.ensures in
-    (omega (arith, c.loop-i.invariant.0), operand_more c.requires.0 names_are c.loop-i.invariant.1 (omega (arith, c.loop-i-test.true, c.operands_from-count.ensures.0)) c.operand_from-n-in-loop-i.ensures.0 c.operand_from-n-in-loop-i.ensures.1 ((binder_is c.requires.0 c.requires.1).body c.loop-i.i c.loop-i.invariant.0 (omega (arith, c.loop-i-test.true, c.operands_from-count.ensures.0))) c.add_operand-s-in-loop-i.ensures c.if-not-fine-4.false)
+    let names = binder_names c.requires.0 c.requires.1 c.operand_from-p.ensures.0 c.names_of-names.ensures in
+    (omega (arith, c.loop-i.invariant.0), operand_more c.requires.0 names c.loop-i.invariant.1 (omega (arith, c.loop-i-test.true, c.operands_from-count.ensures.0)) c.operand_from-n-in-loop-i.ensures.0 c.operand_from-n-in-loop-i.ensures.1 ((binder_is c.requires.0 c.requires.1).body c.loop-i.i c.loop-i.invariant.0 (omega (arith, c.loop-i-test.true, c.operands_from-count.ensures.0))) c.add_operand-s-in-loop-i.ensures c.if-not-fine-4.false)
 
 pub returns : goal.returns
 returns c =
-    let names_are : Names (records c.args.table.now) c.args.r c.names_of-names.result = pattern_names c.requires.0.ask.kept c.requires.0.ask.here.within (omega (arith, (binder_is c.requires.0 c.requires.1).some_named)) c.operand_from-p.ensures.0 c.names_of-names.ensures in
-    gathers_end c.requires.0.ask.here.within names_are ((binder_is c.requires.0 c.requires.1).free c.names_of-names.result) c.loop-i.invariant.1 (omega (arith, c.loop-i-test.false, c.operands_from-count.ensures.0))
+    let names = binder_names c.requires.0 c.requires.1 c.operand_from-p.ensures.0 c.names_of-names.ensures in
+    gathers_end c.requires.0.ask.here.within names ((binder_is c.requires.0 c.requires.1).free c.names_of-names.result) c.loop-i.invariant.1 (omega (arith, c.loop-i-test.false, c.operands_from-count.ensures.0))
