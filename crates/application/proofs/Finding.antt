@@ -19,16 +19,18 @@ use Rattle.values.specs.Items.{nth}
 use Rattle.values.specs.Place.{At}
 use Rattle.values.specs.Contract.{KindAt, Copyable, Copied}
 use Rattle.values.proofs.Records.{holds, integer_range, one_value}
-use Rattle.collections.specs.declared.finding.Found.{Found}
-use Rattle.collections.specs.declared.finding.Found.TheVariants.{At as Place, Nothing}
+use Rattle.collections.specs.Finding.{Found}
+use Rattle.std.specs.Prelude.{Ok, Err, Some, None}
+use Rattle.std.specs.Option.{ok_or}
+use Rattle.prelude.specs.declared.Refusal.{Refusal}
+use Rattle.prelude.specs.declared.Refusal.TheVariants.{WrongKind, NotThere}
 use Rattle.collections.proofs.Shown.{found_at, found_nothing}
 use Rattle.collections.specs.Finding.{AtKey, Item}
-use Rattle.operators.specs.Answer.{Answer, refused, wrong_kind, not_there, found}
+use Rattle.operators.specs.Answer.{Answer, refused, wrong_kind, found}
 use Rattle.operators.specs.Sequences.{item_at}
 use Rattle.operators.specs.Maps.{apply_items, apply_to}
 use Rattle.calling.specs.Scratch.{second}
-use Rattle.calling.specs.declared.Applied.{Applied}
-use Rattle.calling.specs.declared.Applied.TheVariants.{Done, Refused}
+use Rattle.calling.specs.Applied.{Applied}
 use Rattle.calling.specs.Applied.{Two, Applies, OnTwo}
 use Rattle.calling.proofs.Framing.{kept_same, copyable_down, copied_kept}
 use Rattle.calling.proofs.Answering.{two_by, two_off, is_off, is_done}
@@ -37,15 +39,23 @@ use Rattle.application.specs.Applying.{Sought, Brings, Applicable, OnArgument}
 
 -- ---- what was found
 
-module _ {s : List ℕ} {base p : ℕ} {f : Found} (e : f ≡ Place p) where
+module _ {s : List ℕ} {base p : ℕ} {f : Found} (e : f ≡ Some p) where
   pub bring_copyable : Sought s base f → Copyable s p base
   bring_copyable h = let y = found_at h.finds e in let l = y.low in copyable_down (omega arith) (holds y.here)
 
-  pub bring_done : {t : List ℕ} {r : ℕ} → Copied s t p base r → Brings s t base f Done
+  pub bring_done : {t : List ℕ} {r : ℕ} → Copied s t p base r → Brings s t base f (Ok tt)
   bring_done c = record { kept = copied_kept c; right = λ to o x. let y = found_at x e in is_done (ap found y.is) (c.here y.value y.here) }
 
-pub bring_off : {s : List ℕ} {base : ℕ} {f : Found} → f ≡ Nothing → Brings s s base f (Refused not_there)
-bring_off {s} {base} e = record { kept = kept_same s base; right = λ to o x. is_off (ap found (found_nothing x e)) }
+pub bring_off : {s : List ℕ} {base : ℕ} (f : Found) {e : Refusal} → ok_or f NotThere ≡ Err e → Brings s s base f (Err e)
+bring_off {s} {base} None {e} d =
+    let why : NotThere ≡ e = cc in
+    subst (λ (x : Refusal). Brings s s base None (Err x)) why
+    (record { kept = kept_same s base; right = λ to o x. is_off (ap found (found_nothing x refl)) })
+bring_off (Some p) d = impossible cc
+
+pub found_of : (f : Found) {p : ℕ} → ok_or f NotThere ≡ Ok p → f ≡ Some p
+found_of None d = impossible cc
+found_of (Some q) d = cc
 
 -- ---- an index: from 1 on it is one more than the number of items before it
 
@@ -74,7 +84,7 @@ module _ {s : List ℕ} {at : ℕ} {z : ℤ} (a : At s at (integer z)) where
   index_of e = rw exact (index z (range_fits z (integer_range a.fine)) (ap (λ (i : ℤ). lt_z i (pos 1)) (sym exact) ∙ e))
 
 module _ {s : List ℕ} {base : ℕ} {z : ℤ} (a : At s (base + second) (integer z)) where
-  pub found_off : lt_z (to_z w32 (of_z w32 z)) (pos 1) ≡ true → OnArgument sequence s s base (Refused not_there)
+  pub found_off : lt_z (to_z w32 (of_z w32 z)) (pos 1) ≡ true → OnArgument sequence s s base (Err NotThere)
   found_off e = record {
     kept = kept_same s base;
     right = λ vs w v_at w_at.
@@ -95,7 +105,7 @@ module _ {s : List ℕ} {base : ℕ} {z : ℤ} (a : At s (base + second) (intege
           subst (λ (y : Answer). Applies t base r y) (sym (d ∙ i)) (b.right _ _ (x sequence vs v_at));
     }
 
-pub item_wrong : {s : List ℕ} {base kind : ℕ} → KindAt s (base + second) kind → (kind ≡ 2 → ⊥) → OnArgument sequence s s base (Refused wrong_kind)
+pub item_wrong : {s : List ℕ} {base kind : ℕ} → KindAt s (base + second) kind → (kind ≡ 2 → ⊥) → OnArgument sequence s s base (Err WrongKind)
 item_wrong {s} {base} r n = record { kept = kept_same s base; right = λ vs w v_at w_at. is_off (needs_off (λ i. found (item_at vs i)) (no_integer r n w w_at)) }
 
 -- ---- a key
@@ -119,7 +129,7 @@ module _ {s : List ℕ} {base kind : ℕ} (h : Two s base) (read : KindAt s base
       let w = h.right in
       two_by {f = apply_to} o.kept i.1 w.here (o.right i.0 w.value i.1 w.here)
 
-  pub apply_wrong : (kind ≡ 4 → ⊥) → (kind ≡ 5 → ⊥) → OnTwo apply_to s s base (Refused wrong_kind)
+  pub apply_wrong : (kind ≡ 4 → ⊥) → (kind ≡ 5 → ⊥) → OnTwo apply_to s s base (Err WrongKind)
   apply_wrong m n = two_off (λ v w a b. go v w (λ e. m (read.right v a ∙ e)) (λ e. n (read.right v a ∙ e)))
     where
       by_kind : (k : Kind) (vs : Items) (w : Value) → (number k ≡ 4 → ⊥) → (number k ≡ 5 → ⊥) → apply_items k vs w ≡ refused wrong_kind

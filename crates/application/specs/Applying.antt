@@ -3,11 +3,11 @@ use Rattle.std.specs.Prelude.{List, ℕ, ◌+◌, ◌≤◌, length}
 use Rattle.std.proofs.Math.Option.{Option}
 use Rattle.values.specs.Value.{Kind, Value, collection, Items}
 use Rattle.values.specs.Place.{At, Holds}
-use Rattle.collections.specs.declared.finding.Found.{Found}
+use Rattle.collections.specs.Finding.{Found}
 use Rattle.collections.specs.Finding.{HoldsKind, Finds}
 use Rattle.operators.specs.Answer.{found}
 use Rattle.operators.specs.Maps.{apply_items}
-use Rattle.calling.specs.declared.Applied.{Applied}
+use Rattle.calling.specs.Applied.{Applied}
 use Rattle.calling.specs.Applied.{Applies}
 use Rattle.calling.specs.Scratch.{second, workspace, Kept}
 

@@ -13,8 +13,11 @@ use Rattle.values.specs.Contract.{KindAt}
 use Rattle.values.proofs.Records.{one_value, is_boolean, held_as}
 use Rattle.operators.specs.Answer.{Answer, refused, wrong_kind, as_boolean, as_integer, as_kind, needs, needs_both}
 use Rattle.operator_laws.proofs.OfKind.{boolean_not, integer_not, of_kind_is, kind_not, kind_view}
-use Rattle.calling.specs.declared.Applied.{Applied}
-use Rattle.calling.specs.declared.Applied.TheVariants.{Refused}
+use Rattle.calling.specs.Applied.{Applied}
+use Rattle.std.specs.Prelude.{Err}
+use Rattle.prelude.specs.declared.Refusal.{Refusal}
+use Rattle.prelude.specs.declared.Refusal.TheVariants.{WrongKind}
+use Rattle.prelude.specs.Refusals.{number_of}
 use Rattle.calling.specs.Scratch.{second, Kept}
 use Rattle.calling.specs.Applied.{One, Two, Applies, OnOne, OnTwo}
 use Rattle.calling.specs.Operands.{Has, HasTwo, OnItems, OnBoth, KindsAre}
@@ -66,11 +69,11 @@ both_by {k} {l} {f} {s} {t} {base} {r} {vs} {ws} kept a b d = record {
   right = λ vs' ws' a' b'. subst (λ (us : Items). Applies t base r (f vs' us)) (same_items b b') (subst (λ (us : Items). Applies t base r (f us ws)) (same_items a a') d);
 }
 
-pub items_off : {k : Kind} {f : Items → Answer} {s : List ℕ} {base n : ℕ} → ((vs : Items) → At s base (collection k vs) → f vs ≡ refused n) → OnItems k f s s base (Refused n)
-items_off {s = s} {base = base} e = record { kept = kept_same s base; right = λ vs a. is_off (e vs a) }
+pub items_off : {k : Kind} {f : Items → Answer} {s : List ℕ} {base : ℕ} {e : Refusal} → ((vs : Items) → At s base (collection k vs) → f vs ≡ refused (number_of e)) → OnItems k f s s base (Err e)
+items_off {s = s} {base = base} d = record { kept = kept_same s base; right = λ vs a. is_off (d vs a) }
 
-pub both_off : {k l : Kind} {f : Items → Items → Answer} {s : List ℕ} {base n : ℕ} → ((vs ws : Items) → At s base (collection k vs) → At s (base + second) (collection l ws) → f vs ws ≡ refused n) → OnBoth k l f s s base (Refused n)
-both_off {s = s} {base = base} e = record { kept = kept_same s base; right = λ vs ws a b. is_off (e vs ws a b) }
+pub both_off : {k l : Kind} {f : Items → Items → Answer} {s : List ℕ} {base : ℕ} {e : Refusal} → ((vs ws : Items) → At s base (collection k vs) → At s (base + second) (collection l ws) → f vs ws ≡ refused (number_of e)) → OnBoth k l f s s base (Err e)
+both_off {s = s} {base = base} d = record { kept = kept_same s base; right = λ vs ws a b. is_off (d vs ws a b) }
 
 -- ---- as operators ask for them
 
@@ -86,7 +89,7 @@ module _ {k : Kind} {f : Items → Answer} {g : Value → Answer} (e : (v : Valu
       one_by {f = g} o.kept a
       (subst (λ (x : Answer). Applies t base r x) (sym (e (collection k vs) ∙ ap (λ (i : Option Items). needs i f) (kind_view k vs))) (o.right vs a))
 
-pub off_one : (k : Kind) {f : Items → Answer} {g : Value → Answer} → ((v : Value) → g v ≡ needs (as_kind k v) f) → {s : List ℕ} {base kind : ℕ} → KindAt s base kind → (kind ≡ number k → ⊥) → OnOne g s s base (Refused wrong_kind)
+pub off_one : (k : Kind) {f : Items → Answer} {g : Value → Answer} → ((v : Value) → g v ≡ needs (as_kind k v) f) → {s : List ℕ} {base kind : ℕ} → KindAt s base kind → (kind ≡ number k → ⊥) → OnOne g s s base (Err WrongKind)
 off_one k {f} e r n = one_off (λ v a. e v ∙ needs_off f (no_kind r k n v a))
 
 -- Two operands that are of the kinds k and l.
@@ -119,7 +122,7 @@ module _ {k l : Kind} {f : Items → Items → Answer} {g : Value → Value → 
       ∙ ap (λ (i : Option Items). needs i (f vs)) (kind_view l ws)))
       (o.right vs ws a b))
 
-pub off_two : (k l : Kind) {f : Items → Items → Answer} {g : Value → Value → Answer} → ((v w : Value) → g v w ≡ needs_both (as_kind k v) (as_kind l w) f) → {s : List ℕ} {base : ℕ} {r : Bool} → KindsAre s base (number k) (number l) r → r ≡ false → OnTwo g s s base (Refused wrong_kind)
+pub off_two : (k l : Kind) {f : Items → Items → Answer} {g : Value → Value → Answer} → ((v w : Value) → g v w ≡ needs_both (as_kind k v) (as_kind l w) f) → {s : List ℕ} {base : ℕ} {r : Bool} → KindsAre s base (number k) (number l) r → r ≡ false → OnTwo g s s base (Err WrongKind)
 off_two k l {f} e c d =
     two_off
     (λ v w a b.

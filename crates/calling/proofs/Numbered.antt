@@ -9,7 +9,7 @@ use Rattle.prelude.proofs.Truth.{by_test}
 use Rattle.values.specs.Value.{Kind, Value, Items}
 use Rattle.operators.specs.Answer.{Answer, as_kind, needs}
 use Rattle.operators.specs.Operators.{unary, binary}
-use Rattle.calling.specs.declared.Applied.{Applied}
+use Rattle.calling.specs.Applied.{Applied}
 use Rattle.calling.specs.Applied.{OnOne, OnTwo}
 use Rattle.calling.specs.Operands.{Has, OnItems}
 use Rattle.calling.proofs.Kinding.{on_one}

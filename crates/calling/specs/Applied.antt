@@ -1,11 +1,11 @@
 -- What every operator on scratch asks and promises. Its operands stand at `base` and `second` bytes above it; `workspace` bytes from `base` on
 -- are there to work in. It leaves its value at `base` and everything below `base` as it was; nothing is promised of what lies above.
-use Rattle.std.specs.Prelude.{◌≡◌, List, ℕ, ◌+◌, ◌≤◌, length}
+use Rattle.std.specs.Prelude.{◌≡◌, List, ℕ, ◌+◌, ◌≤◌, length, Result, ⊤, Ok, Err}
+use Rattle.prelude.specs.declared.Refusal.{Refusal}
+use Rattle.prelude.specs.Refusals.{number_of}
 use Rattle.values.specs.Value.{Value}
 use Rattle.values.specs.Place.{At, Holds}
 use Rattle.operators.specs.Answer.{Answer, is, refused}
-use Rattle.calling.specs.declared.Applied.{Applied}
-use Rattle.calling.specs.declared.Applied.TheVariants.{Done, Refused}
 use Rattle.calling.specs.Scratch.{second, workspace, Kept}
 
 -- ---- what is asked
@@ -23,10 +23,14 @@ pub record Two (s : List ℕ) (base : ℕ) : Type 0 where
 
 -- ---- what is promised
 
--- The answer, as the code has it: its value at base, or its number.
+-- What an operator's code answers: that its value stands at base, or why it has none.
+abbrev pub Applied : Type 0
+Applied = Result ⊤ Refusal
+
+-- The answer, as the code has it: its value at base, or the refusal that has its number.
 pub data Applies (t : List ℕ) (base : ℕ) (r : Applied) : Answer → Type 0 where
-  done : {v : Value} → r ≡ Done → At t base v → Applies t base r (is v)
-  off : {n : ℕ} → r ≡ Refused n → Applies t base r (refused n)
+  done : {v : Value} → r ≡ Ok tt → At t base v → Applies t base r (is v)
+  off : {e : Refusal} {n : ℕ} → r ≡ Err e → n ≡ number_of e → Applies t base r (refused n)
 
 -- r is what f answers on the value at base.
 pub record OnOne (f : Value → Answer) (s t : List ℕ) (base : ℕ) (r : Applied) : Type 0 where

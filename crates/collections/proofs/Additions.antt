@@ -18,10 +18,11 @@ use Rattle.values.proofs.Records.{word_size, holds, items_to, no_items, joined, 
 use Rattle.values.specs.Contract.{heading, PutHead}
 use Rattle.values.proofs.Written.{headed_collection}
 use Rattle.values.proofs.Frame.{items_below, outside_then, outside_none}
-use Rattle.collections.specs.declared.building.Added.{Added}
-use Rattle.collections.specs.declared.building.Added.TheVariants.{Done as Put, Full as TooLong}
-use Rattle.collections.specs.declared.finding.Sought.{Sought}
-use Rattle.collections.specs.declared.finding.Sought.TheVariants.{Here, Before}
+use Rattle.collections.specs.Building.{Added}
+use Rattle.std.specs.Prelude.{Ok, Err, is_ok}
+use Rattle.prelude.specs.declared.Refusal.{Refusal}
+use Rattle.prelude.specs.declared.Refusal.TheVariants.{TooLarge}
+use Rattle.collections.specs.Finding.{Sought}
 use Rattle.values.proofs.Members.{insert_present, sizes_insert, ascending_insert}
 use Rattle.collections.proofs.Seeking.{Member, belongs}
 use Rattle.collections.specs.Finding.{Seeks}
@@ -31,21 +32,21 @@ use Rattle.collections.specs.Steps.{Gap, Fills, Slot, AddsAt}
 
 -- ---- answers
 
-pub added_put : (n : ℕ) → n ≤ value_limit → Put ≡ added n
+pub added_put : (n : ℕ) → n ≤ value_limit → Ok tt ≡ added n
 added_put n h = rw (le-leb n value_limit h)
 
-pub added_long : (n : ℕ) → value_limit < n → TooLong ≡ added n
+pub added_long : (n : ℕ) → value_limit < n → Err TooLarge ≡ added n
 added_long n h = rw (lt-leb n value_limit h)
 
 -- two wholes of one size have one answer
 answered : {r : Added} (m n : ℕ) → r ≡ added m → m ≡ n → r ≡ added n
 answered m n e d = e ∙ ap added d
 
-not_put : {X : Type 0} → TooLong ≡ Put → X
-not_put e = impossible cc
+pub not_ok : {X : Type 0} {e : Refusal} → ◌≡◌ {A = Added} (Err e) (Ok tt) → X
+not_ok d = impossible cc
 
-not_long : {X : Type 0} → Put ≡ TooLong → X
-not_long e = impossible cc
+pub not_err : {X : Type 0} {e : Refusal} → ◌≡◌ {A = Added} (Ok tt) (Err e) → X
+not_err d = impossible cc
 
 -- ---- a heading before items
 
@@ -75,12 +76,12 @@ retagged e h = record {
 -- ---- one item more
 
 module _ {s : List ℕ} {at p x : ℕ} (slot : Slot s at p x) {n m : ℕ} (en : n ≡ word s at) (em : m ≡ word s x) where
-  pub add_full : {kind : ℕ} → value_limit < n + m → AddsAt s s at p x kind TooLong
+  pub add_full : {kind : ℕ} → value_limit < n + m → AddsAt s s at p x kind (Err TooLarge)
   add_full h = record {
     frame = outside_none s at (at + value_limit);
-    refused = λ e. refl;
+    refused = λ e d. refl;
     answers = added_long (word s at + word s x) (omega arith);
-    made = λ k us ws v e. not_put e;
+    made = λ k us ws v e. not_ok e;
   }
 
   pub add_gap : n + m ≤ value_limit → Gap s p (at + n) x
@@ -94,7 +95,7 @@ module _ {s : List ℕ} {at p x : ℕ} (slot : Slot s at p x) {n m : ℕ} (en : 
       go (inl b) = let low = slot.low in inl (omega arith)
       go (inr b) = inr (omega arith)
 
-  pub addition_done : n + m ≤ value_limit → {t u : List ℕ} {kind : ℕ} → Fills s t p (at + n) x → PutHead t u at (n + m) kind → AddsAt s u at p x kind Put
+  pub addition_done : n + m ≤ value_limit → {t u : List ℕ} {kind : ℕ} → Fills s t p (at + n) x → PutHead t u at (n + m) kind → AddsAt s u at p x kind (Ok tt)
   addition_done h {t} {u} f q =
       let r = slot.room in
       let low = slot.low in
@@ -102,7 +103,7 @@ module _ {s : List ℕ} {at p x : ℕ} (slot : Slot s at p x) {n m : ℕ} (en : 
       let size_x = slot.item.low in
       record {
         frame = outside_then at (at + value_limit) (omega arith) (omega arith) (omega arith) (omega arith) f.frame q.outside;
-        refused = λ e. not_long e;
+        refused = λ e d. not_err d;
         answers = added_put (word s at + word s x) (omega arith);
         made = λ k us ws v e d a b g shaped.
             let w = word_size g in
@@ -158,18 +159,18 @@ record Part (s : List ℕ) (at : ℕ) (vs : Items) (v : Value) (q : ℕ) : Type 
   low : at + 4 ≤ q
   high : q ≤ at + word s at
 
-part_at : {s : List ℕ} {at : ℕ} {vs : Items} {v : Value} {q : ℕ} → At s at (collection set vs) → Member v vs (at + 4) (Before q) → Part s at vs v q
+part_at : {s : List ℕ} {at : ℕ} {vs : Items} {v : Value} {q : ℕ} → At s at (collection set vs) → Member v vs (at + 4) (Err q) → Part s at vs v q
 part_at {s} {at} {vs} {v} h (belongs q us ws e f g i) =
     let y = parts_at h us ws f q g in
     record { us = us; ws = ws; us_at = y.0; ws_at = y.1; new = e; is = i; low = omega arith; high = let d = y.1.ends in omega arith }
 
 module _ {s : List ℕ} {at x : ℕ} {sought : Sought} (f : Seeks s at x false sought) where
-  pub inserted_here : (q : ℕ) → sought ≡ Here q → Inserts s s at x Put
+  pub inserted_here : (q : ℕ) → sought ≡ Ok q → Inserts s s at x (Ok tt)
   inserted_here q e = record {
     frame = outside_none s at (at + value_limit);
-    refused = λ d. refl;
+    refused = λ e d. refl;
     right = λ vs v h g.
-        let i = insert_present v vs (collection_shaped h.fine) (sym (contained f q e vs v h g)) in
+        let i = insert_present v vs (collection_shaped h.fine) (sym (contained f vs v h g) ∙ ap is_ok e) in
         record {
           answers = added_put (size (collection set vs)) h.fine.short ∙ ap (λ (ws : Items). added (size (collection set ws))) (sym i);
           made = λ d. rw i h;
@@ -178,13 +179,13 @@ module _ {s : List ℕ} {at x : ℕ} {sought : Sought} (f : Seeks s at x false s
   }
 
   -- where a new member belongs
-  part : {vs : Items} {v : Value} (q : ℕ) → sought ≡ Before q → At s at (collection set vs) → At s x v → Part s at vs v q
+  part : {vs : Items} {v : Value} (q : ℕ) → sought ≡ Err q → At s at (collection set vs) → At s x v → Part s at vs v q
   part {vs} {v} q e h g = part_at h (subst (Member v vs (at + 4)) e (sight f h g))
 
-  pub insert_slot : Room set s at x → (q : ℕ) → sought ≡ Before q → Slot s at q x
+  pub insert_slot : Room set s at x → (q : ℕ) → sought ≡ Err q → Slot s at q x
   insert_slot r q e = let y = part q e r.held.here r.item.here in slot_in q r y.low y.high
 
-  pub inserted_before : {t : List ℕ} {r : Added} (q : ℕ) → sought ≡ Before q → AddsAt s t at q x 3 r → Inserts s t at x r
+  pub inserted_before : {t : List ℕ} {r : Added} (q : ℕ) → sought ≡ Err q → AddsAt s t at q x 3 r → Inserts s t at x r
   inserted_before {t} {r} q e a = record {
     frame = a.frame;
     refused = a.refused;

@@ -1,14 +1,11 @@
 -- What the steps of building make of a map. Assumes nothing.
 use mathlib.Core.Path.{◌≡◌, refl, sym, ap, subst, ◌∙◌}
-use mathlib.Core.Bool.{Bool, true, false, cond}
+use mathlib.Core.Bool.{Bool, true, false}
 use mathlib.Core.List.{List}
 use mathlib.Core.Logic.{◌⊎◌, inl, inr}
 use mathlib.Core.Option.{Option, none as absent, some}
 use Prim.Native.Nat.{ℕ, ◌+◌, ◌≤◌, ◌<◌}
 use native.Mathlib.Omega.{arith}
-use borrow.Author.Tests.{le-leb, lt-leb}
-use lib.Dec.{leb}
-use Rattle.prelude.proofs.Absurd.{impossible}
 use Rattle.integers.specs.Bytes.{word}
 use Rattle.values.specs.Value.{map, Value, collection, Items, more, size, sizes, Shaped, value_limit}
 use Rattle.values.specs.Items.{join, same, lookup, enter}
@@ -17,49 +14,28 @@ use Rattle.values.proofs.Order.{same_true}
 use Rattle.values.proofs.Encoding.{size_low, more_sizes, collection_size}
 use Rattle.values.proofs.Records.{word_size, holds, collection_shaped}
 use Rattle.values.proofs.Frame.{items_below, at_below, at_above, outside_then, outside_none}
-use Rattle.values.specs.Contract.{PutHead, Equal}
-use Rattle.collections.specs.declared.building.Entered.{Entered}
-use Rattle.collections.specs.declared.building.Entered.TheVariants.{Done, Clash, Full}
-use Rattle.collections.specs.declared.finding.Sought.{Sought}
-use Rattle.collections.specs.declared.finding.Sought.TheVariants.{Here, Before}
+use Rattle.values.specs.Contract.{PutHead, AreEqual}
+use Rattle.collections.specs.Building.{Added}
+use Rattle.std.specs.Prelude.{Ok, Err}
+use Rattle.prelude.specs.declared.Refusal.TheVariants.{TooLarge, Clash}
+use Rattle.collections.specs.Finding.{Sought}
 use Rattle.values.proofs.Entries.{enter_present, sizes_enter, paired_enter, ascending_enter}
 use Rattle.collections.proofs.Seeking.{Key, belongs}
 use Rattle.collections.specs.Finding.{Seeks}
-use Rattle.collections.specs.Building.{opened, entry_answer, EntryRoom, Apart, Enters}
+use Rattle.collections.specs.Building.{added, entry_answer, EntryRoom, Apart, Enters}
 use Rattle.collections.specs.Steps.{Gap, Fills, Slot, EntersAt}
 use Rattle.collections.proofs.Sights.{key_sight, entry}
-use Rattle.collections.proofs.Additions.{headed_both, parts_at, slot_in, add_gap}
-
--- ---- answers
-
-opened_done : (n : ℕ) → n ≤ value_limit → Done ≡ opened n
-opened_done n h = rw (le-leb n value_limit h)
-
-opened_full : (n : ℕ) → value_limit < n → Full ≡ opened n
-opened_full n h = rw (lt-leb n value_limit h)
-
-full_done : {X : Type 0} → Full ≡ Done → X
-full_done e = impossible cc
-
-done_full : {X : Type 0} → Done ≡ Full → X
-done_full e = impossible cc
-
-clash_done : {X : Type 0} → Clash ≡ Done → X
-clash_done e = impossible cc
-
-opened_clash : {X : Type 0} (b : Bool) → cond b Done Full ≡ Clash → X
-opened_clash true e = impossible cc
-opened_clash false e = impossible cc
+use Rattle.collections.proofs.Additions.{added_put, added_long, not_ok, not_err, headed_both, parts_at, slot_in, add_gap}
 
 -- ---- one entry more
 
 module _ {s : List ℕ} {at p x y : ℕ} (key : Slot s at p x) (val : Slot s at p y) {n m l : ℕ} (en : n ≡ word s at) (em : m ≡ word s x) (el : l ≡ word s y) where
-  pub entry_full : value_limit < n + m + l → EntersAt s s at p x y Full
+  pub entry_full : value_limit < n + m + l → EntersAt s s at p x y (Err TooLarge)
   entry_full h = record {
     frame = outside_none s at (at + value_limit);
-    refused = λ e. refl;
-    answers = opened_full (word s at + word s x + word s y) (omega arith);
-    made = λ us ws k v e. full_done e;
+    refused = λ e d. refl;
+    answers = added_long (word s at + word s x + word s y) (omega arith);
+    made = λ us ws k v e. not_ok e;
   }
 
   module _ (h : n + m + l ≤ value_limit) where
@@ -89,7 +65,7 @@ module _ {s : List ℕ} {at p x y : ℕ} (key : Slot s at p x) (val : Slot s at 
           go (inl b) e = let low = key.low in inl (omega arith)
           go (inr b) e = inr (omega arith)
 
-      pub entry_done : {u w : List ℕ} → Fills t u p (at + n + l) x → PutHead u w at (n + m + l) 5 → EntersAt s w at p x y Done
+      pub entry_done : {u w : List ℕ} → Fills t u p (at + n + l) x → PutHead u w at (n + m + l) 5 → EntersAt s w at p x y (Ok tt)
       entry_done {u} {w} g q =
           let r = key.room in
           let low = key.low in
@@ -100,8 +76,8 @@ module _ {s : List ℕ} {at p x y : ℕ} (key : Slot s at p x) (val : Slot s at 
           let first = outside_then at (at + value_limit) (omega arith) (omega arith) (omega arith) (omega arith) f.frame g.frame in
           record {
             frame = outside_then at (at + value_limit) (omega arith) (omega arith) (omega arith) (omega arith) first q.outside;
-            refused = λ e. done_full e;
-            answers = opened_done (word s at + word s x + word s y) (omega arith);
+            refused = λ e d. not_err d;
+            answers = added_put (word s at + word s x + word s y) (omega arith);
             made = λ us ws k v e a b i j shaped.
                 let wk = word_size i in
                 let wv = word_size j in
@@ -128,24 +104,23 @@ record Parting (s : List ℕ) (at : ℕ) (vs : Items) (k : Value) (q : ℕ) : Ty
   low : at + 4 ≤ q
   high : q ≤ at + word s at
 
-parting_at : {s : List ℕ} {at : ℕ} {vs : Items} {k : Value} {q : ℕ} → At s at (collection map vs) → Key k vs (at + 4) (Before q) → Parting s at vs k q
+parting_at : {s : List ℕ} {at : ℕ} {vs : Items} {k : Value} {q : ℕ} → At s at (collection map vs) → Key k vs (at + 4) (Err q) → Parting s at vs k q
 parting_at {s} {at} {vs} {k} h (belongs q us ws e f g i) =
     let y = parts_at h us ws f q g in
     record { us = us; ws = ws; us_at = y.0; ws_at = y.1; new = e; is = i; low = omega arith; high = let d = y.1.ends in omega arith }
 
 module _ {s : List ℕ} {at x : ℕ} {sought : Sought} (f : Seeks s at x true sought) where
   -- the key is there: by what stands at it
-  module _ (q : ℕ) (e : sought ≡ Here q) {n y : ℕ} (d : n ≡ word s q) (b : Bool) (c : Equal s (q + n) y b) where
+  module _ (q : ℕ) (e : sought ≡ Ok q) {n y : ℕ} (d : n ≡ word s q) (b : Bool) (c : AreEqual s (q + n) y b) where
     compared : (vs : Items) (k v : Value) → At s at (collection map vs) → At s x k → At s y v → (w : Value) × (lookup k vs ≡ some w) × (b ≡ same w v)
     compared vs k v h g i =
         let z = entry f q e vs k h g in
         (z.value, z.looked, c z.value v (subst (λ (j : ℕ). At s (q + j) z.value) (sym d) z.value_at) i)
 
-    pub entered_same : b ≡ true → Enters s s at x y Done
+    pub entered_same : b ≡ true → Enters s s at x y (Ok tt)
     entered_same t = record {
       frame = outside_none s at (at + value_limit);
-      clash = λ u. refl;
-      full = λ u. refl;
+      refused = λ e u. refl;
       right = λ vs k v h g i.
           let (w, o, r) = compared vs k v h g i in
           let shaped = collection_shaped h.fine in
@@ -158,23 +133,22 @@ module _ {s : List ℕ} {at x : ℕ} {sought : Sought} (f : Seeks s at x true so
           };
     }
 
-    pub entered_clash : b ≡ false → Enters s s at x y Clash
+    pub entered_clash : b ≡ false → Enters s s at x y (Err Clash)
     entered_clash t = record {
       frame = outside_none s at (at + value_limit);
-      clash = λ u. refl;
-      full = λ u. refl;
+      refused = λ e u. refl;
       right = λ vs k v h g i.
           let (w, o, r) = compared vs k v h g i in
           let u : same w v ≡ false = sym r ∙ t in
           record {
             answers = sym (ap (λ (l : Option Value). entry_answer l v (size (collection map (enter k v vs)))) o ∙ rw u);
-            made = λ u. clash_done u;
+            made = λ u. not_ok u;
             still = λ u. refl;
           };
     }
 
   -- the key is new
-  module _ (q : ℕ) (e : sought ≡ Before q) where
+  module _ (q : ℕ) (e : sought ≡ Err q) where
     parting : {vs : Items} {k : Value} → At s at (collection map vs) → At s x k → Parting s at vs k q
     parting {vs} {k} h g = parting_at h (subst (Key k vs (at + 4)) e (key_sight f h g))
 
@@ -183,11 +157,10 @@ module _ {s : List ℕ} {at x : ℕ} {sought : Sought} (f : Seeks s at x true so
         let z = parting r.key.held.here r.key.item.here in
         (slot_in q r.key z.low z.high, slot_in q r.value z.low z.high)
 
-    pub entered_before : {y : ℕ} {t : List ℕ} {r : Entered} → EntersAt s t at q x y r → Enters s t at x y r
+    pub entered_before : {y : ℕ} {t : List ℕ} {r : Added} → EntersAt s t at q x y r → Enters s t at x y r
     entered_before {y} {t} {r} a = record {
       frame = a.frame;
-      clash = λ d. opened_clash (leb (word s at + word s x + word s y) value_limit) (sym a.answers ∙ d);
-      full = a.refused;
+      refused = a.refused;
       right = λ vs k v h g i.
           let z = parting h g in
           let shaped = collection_shaped h.fine in
@@ -200,7 +173,7 @@ module _ {s : List ℕ} {at x : ℕ} {sought : Sought} (f : Seeks s at x true so
           let still_map : Shaped map (enter k v vs) = (paired_enter k v vs shaped.0, ascending_enter k v vs shaped.0 shaped.1) in
           let total : word s at + word s x + word s y ≡ size (collection map (enter k v vs)) = omega arith in
           record {
-            answers = a.answers ∙ ap opened total ∙ sym (ap (λ (l : Option Value). entry_answer l v (size (collection map (enter k v vs)))) z.new);
+            answers = a.answers ∙ ap added total ∙ sym (ap (λ (l : Option Value). entry_answer l v (size (collection map (enter k v vs)))) z.new);
             made = λ d.
                 rw (z.is v)
                 (a.made z.us z.ws k v d z.us_at z.ws_at g i (rw (z.is v) at still_map));

@@ -2,7 +2,6 @@
 pub mod Shown
 pub mod Built
 mod Seeking
-mod Shifting
 pub mod Additions
 mod Sights
 mod Entering

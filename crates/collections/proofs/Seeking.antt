@@ -5,12 +5,13 @@ use mathlib.Core.Option.{none as absent, some}
 use Prim.Native.Nat.{ℕ, ◌+◌}
 use native.Mathlib.Omega.{arith}
 use Rattle.prelude.proofs.Truth.{cond-true, cond-false}
-use Rattle.integers.specs.declared.Order.{Order}
-use Rattle.integers.specs.declared.Order.TheVariants.{Lower, Same, Higher}
+use Rattle.std.specs.declared.cmp.Ordering.{Ordering}
+use Rattle.std.specs.declared.cmp.Ordering.TheVariants.{Less, Equal, Greater}
+use Rattle.std.specs.Ordering.{is_eq}
 use Rattle.values.specs.Value.{Value, Items, none, more, every_other, keys, size, sizes, order, Ascending, Paired}
-use Rattle.values.specs.Items.{is_same, same, is_member, in_order, join, insert, lookup, enter}
-use Rattle.collections.specs.declared.finding.Sought.{Sought}
-use Rattle.collections.specs.declared.finding.Sought.TheVariants.{Here, Before}
+use Rattle.values.specs.Items.{same, is_member, in_order, join, insert, lookup, enter}
+use Rattle.collections.specs.Finding.{Sought}
+use Rattle.std.specs.Prelude.{Ok, Err}
 use Rattle.collections.specs.Finding.{seek}
 use Rattle.values.proofs.Members.{higher_apart, before_first, before_apart, insert_lower, insert_higher}
 use Rattle.values.proofs.Entries.{by_entries, enter_lower, enter_higher, lookup_here, lookup_on, lookup_before, lookup-none}
@@ -19,10 +20,10 @@ use Rattle.values.proofs.Entries.{by_entries, enter_lower, enter_higher, lookup_
 
 -- What a place says of insertion: v is a member, or the members part there, and v belongs between.
 pub data Member (v : Value) (vs : Items) (p : ℕ) : Sought → Type 0 where
-  present : (q : ℕ) → is_member v vs ≡ true → Member v vs p (Here q)
-  belongs : (q : ℕ) (us ws : Items) → is_member v vs ≡ false → vs ≡ join us ws → q ≡ p + sizes us → insert v vs ≡ join us (more v ws) → Member v vs p (Before q)
+  present : (q : ℕ) → is_member v vs ≡ true → Member v vs p (Ok q)
+  belongs : (q : ℕ) (us ws : Items) → is_member v vs ≡ false → vs ≡ join us ws → q ≡ p + sizes us → insert v vs ≡ join us (more v ws) → Member v vs p (Err q)
 
-member_on : (v w : Value) (ws : Items) (p : ℕ) {r : Sought} → order v w ≡ Higher → Member v ws (p + size w) r → Member v (more w ws) p r
+member_on : (v w : Value) (ws : Items) (p : ℕ) {r : Sought} → order v w ≡ Greater → Member v ws (p + size w) r → Member v (more w ws) p r
 unfolding is_member join size
 member_on v w ws p o (present q e) = present q (cond-false (same v w) true (is_member v ws) (higher_apart v w o) ∙ e)
 member_on v w ws p o (belongs q us ws' e f g h) =
@@ -33,32 +34,32 @@ unfolding seek Ascending is_member join insert size
 seek_member v none p a = belongs p none none refl refl (omega arith) refl
 seek_member v (more w ws) p a = go (order v w) refl (seek_member v ws (p + size w) a.1)
   where
-    go : (o : Order) → order v w ≡ o → Member v ws (p + size w) (seek false true v ws (p + size w)) → Member v (more w ws) p (in_order o (Before p) (Here p) (seek false true v ws (p + size w)))
-    go Lower e m = belongs p none (more w ws) (before_apart v (more w ws) (before_first v w ws e a.0)) refl (omega arith) (insert_lower v w ws e)
-    go Same e m = present p (cond-true (same v w) true (is_member v ws) (ap is_same e))
-    go Higher e m = member_on v w ws p e m
+    go : (o : Ordering) → order v w ≡ o → Member v ws (p + size w) (seek false true v ws (p + size w)) → Member v (more w ws) p (in_order o (Err p) (Ok p) (seek false true v ws (p + size w)))
+    go Less e m = belongs p none (more w ws) (before_apart v (more w ws) (before_first v w ws e a.0)) refl (omega arith) (insert_lower v w ws e)
+    go Equal e m = present p (cond-true (same v w) true (is_member v ws) (ap is_eq e))
+    go Greater e m = member_on v w ws p e m
 
 -- ---- among keys
 
 -- What a place says of a key: it stands there with its value, or the entries part there, and it belongs between.
 pub data Key (k : Value) (vs : Items) (p : ℕ) : Sought → Type 0 where
-  present : (q : ℕ) (us ws : Items) (l w : Value) → lookup k vs ≡ some w → vs ≡ join us (more l (more w ws)) → q ≡ p + sizes us → Key k vs p (Here q)
-  belongs : (q : ℕ) (us ws : Items) → lookup k vs ≡ absent → vs ≡ join us ws → q ≡ p + sizes us → ((v : Value) → enter k v vs ≡ join us (more k (more v ws))) → Key k vs p (Before q)
+  present : (q : ℕ) (us ws : Items) (l w : Value) → lookup k vs ≡ some w → vs ≡ join us (more l (more w ws)) → q ≡ p + sizes us → Key k vs p (Ok q)
+  belongs : (q : ℕ) (us ws : Items) → lookup k vs ≡ absent → vs ≡ join us ws → q ≡ p + sizes us → ((v : Value) → enter k v vs ≡ join us (more k (more v ws))) → Key k vs p (Err q)
 
-key_on : (k l w : Value) (vs : Items) (p : ℕ) {r : Sought} → order k l ≡ Higher → Key k vs (p + size l + size w) r → Key k (more l (more w vs)) p r
+key_on : (k l w : Value) (vs : Items) (p : ℕ) {r : Sought} → order k l ≡ Greater → Key k vs (p + size l + size w) r → Key k (more l (more w vs)) p r
 unfolding join size
 key_on k l w vs p o (present q us ws l' w' e f g) = present q (more l (more w us)) ws l' w' (lookup_on k l w vs o ∙ e) (ap (λ (ws : Items). more l (more w ws)) f) (omega arith)
 key_on k l w vs p o (belongs q us ws e f g h) =
     belongs q (more l (more w us)) ws (lookup_on k l w vs o ∙ e) (ap (λ (ws : Items). more l (more w ws)) f) (omega arith)
     (λ v. enter_higher k v l w vs o ∙ ap (λ (ws : Items). more l (more w ws)) (h v))
 
-key_first : (k l w : Value) (vs : Items) (p : ℕ) (o : Order) (r : Sought) → Paired vs → Ascending (keys (more l (more w vs))) → order k l ≡ o
-    → Key k vs (p + size l + size w) r → Key k (more l (more w vs)) p (in_order o (Before p) (Here p) r)
+key_first : (k l w : Value) (vs : Items) (p : ℕ) (o : Ordering) (r : Sought) → Paired vs → Ascending (keys (more l (more w vs))) → order k l ≡ o
+    → Key k vs (p + size l + size w) r → Key k (more l (more w vs)) p (in_order o (Err p) (Ok p) r)
 unfolding every_other Ascending join size
-key_first k l w vs p Lower r q a e m =
+key_first k l w vs p Less r q a e m =
     belongs p none (more l (more w vs)) (lookup_before k l w vs q a.0 e) refl (omega arith) (λ v. enter_lower k v l (more w vs) e)
-key_first k l w vs p Same r q a e m = present p none vs l w (lookup_here k l w vs e) refl (omega arith)
-key_first k l w vs p Higher r q a e m = key_on k l w vs p e m
+key_first k l w vs p Equal r q a e m = present p none vs l w (lookup_here k l w vs e) refl (omega arith)
+key_first k l w vs p Greater r q a e m = key_on k l w vs p e m
 
 pub seek_key : (k : Value) (vs : Items) → Paired vs → (p : ℕ) → Ascending (keys vs) → Key k vs p (seek true true k vs p)
 unfolding seek every_other Ascending join enter size

@@ -10,9 +10,10 @@ use Rattle.values.specs.Value.{set, map, Value, Items, more, collection, size, s
 use Rattle.values.specs.Items.{is_member, join, lookup}
 use Rattle.values.specs.Place.{At, ItemsAt}
 use Rattle.values.proofs.Records.{word_size, collection_shaped, items-of, parted, first-of}
-use Rattle.collections.specs.declared.finding.Found.TheVariants.{At as Place, Nothing}
-use Rattle.collections.specs.declared.finding.Sought.{Sought}
-use Rattle.collections.specs.declared.finding.Sought.TheVariants.{Here, Before}
+use Rattle.std.specs.Prelude.{Ok, Err, Some, None, is_ok}
+use Rattle.std.specs.Result.{result_ok}
+use Rattle.prelude.proofs.Absurd.{impossible}
+use Rattle.collections.specs.Finding.{Sought}
 use Rattle.collections.proofs.Seeking.{Member, Key, present, belongs, seek_member, seek_key}
 use Rattle.collections.specs.Finding.{Seeks, FindsIn, found, missing, Contains, AtKey}
 
@@ -21,18 +22,12 @@ use Rattle.collections.specs.Finding.{Seeks, FindsIn, found, missing, Contains, 
 pub sight : {s : List ℕ} {at x : ℕ} {r : Sought} {vs : Items} {v : Value} → Seeks s at x false r → At s at (collection set vs) → At s x v → Member v vs (at + 4) r
 sight {s} {at} {x} {r} {vs} {v} f h g = subst (Member v vs (at + 4)) (sym (f set vs v h g)) (seek_member v vs (at + 4) (collection_shaped h.fine))
 
-is_member_lem : {v : Value} {vs : Items} {p q : ℕ} → Member v vs p (Here q) → true ≡ is_member v vs
-is_member_lem (present q e) = sym e
+is_found : {v : Value} {vs : Items} {p : ℕ} {r : Sought} → Member v vs p r → is_ok r ≡ is_member v vs
+is_found (present q e) = sym e
+is_found (belongs q us ws e f g h) = sym e
 
-no_member : {v : Value} {vs : Items} {p q : ℕ} → Member v vs p (Before q) → false ≡ is_member v vs
-no_member (belongs q us ws e f g h) = sym e
-
-module _ {s : List ℕ} {at x : ℕ} {r : Sought} (f : Seeks s at x false r) where
-  pub contained : (q : ℕ) → r ≡ Here q → Contains s at x true
-  contained q e vs v h g = is_member_lem (subst (Member v vs (at + 4)) e (sight f h g))
-
-  pub not_contained : (q : ℕ) → r ≡ Before q → Contains s at x false
-  not_contained q e vs v h g = no_member (subst (Member v vs (at + 4)) e (sight f h g))
+pub contained : {s : List ℕ} {at x : ℕ} {r : Sought} → Seeks s at x false r → Contains s at x (is_ok r)
+contained f vs v h g = is_found (sight f h g)
 
 -- ---- in a map
 
@@ -51,7 +46,7 @@ pub record Entry (s : List ℕ) (at : ℕ) (vs : Items) (v : Value) (q : ℕ) : 
   pub from : at + 4 ≤ q
   pub to : q + word s q + size value ≤ at + word s at
 
-entry_at : {s : List ℕ} {at : ℕ} {vs : Items} {v : Value} {q : ℕ} → At s at (collection map vs) → Key v vs (at + 4) (Here q) → Entry s at vs v q
+entry_at : {s : List ℕ} {at : ℕ} {vs : Items} {v : Value} {q : ℕ} → At s at (collection map vs) → Key v vs (at + 4) (Ok q) → Entry s at vs v q
 entry_at {s} {at} {vs} {v} h (present q us ws l w d i j) =
     let items : ItemsAt s (at + 4) (at + size (collection map vs)) (join us (more l (more w ws))) = subst (λ (l : Items). ItemsAt s (at + 4) (at + size (collection map vs)) l) i (items-of h) in
     let first = first-of (parted us (more l (more w ws)) items).1 in
@@ -72,19 +67,24 @@ entry_at {s} {at} {vs} {v} h (present q us ws l w d i j) =
     }
 
 module _ {s : List ℕ} {at x : ℕ} {r : Sought} (f : Seeks s at x true r) (q : ℕ) where
-  pub entry : r ≡ Here q → (vs : Items) (v : Value) → At s at (collection map vs) → At s x v → Entry s at vs v q
+  pub entry : r ≡ Ok q → (vs : Items) (v : Value) → At s at (collection map vs) → At s x v → Entry s at vs v q
   entry e vs v h g = entry_at h (subst (Key v vs (at + 4)) e (key_sight f h g))
 
-  pub at_key : r ≡ Here q → (n : ℕ) → n ≡ word s q → AtKey s at x (Place (q + n))
+  pub at_key : r ≡ Ok q → (n : ℕ) → n ≡ word s q → AtKey s at x (Some (q + n))
   at_key e n d vs v h g =
       let y = entry e vs v h g in
       let low = y.from in
       let high = y.to in
       let z = word_size h in
-      rw d (subst (FindsIn s at (collection map vs) (Place (q + word s q))) (sym y.looked) (found y.value_at (omega arith) (omega arith)))
+      rw d (subst (FindsIn s at (collection map vs) (Some (q + word s q))) (sym y.looked) (found y.value_at (omega arith) (omega arith)))
 
-  pub no_key : r ≡ Before q → AtKey s at x Nothing
-  no_key e vs v h g = subst (FindsIn s at (collection map vs) Nothing) (go (subst (Key v vs (at + 4)) e (key_sight f h g))) missing
-    where
-      go : {q : ℕ} → Key v vs (at + 4) (Before q) → absent ≡ lookup v vs
-      go (belongs q us ws d i j k) = sym d
+pub ok_at : {r : Sought} {q : ℕ} → result_ok r ≡ Some q → r ≡ Ok q
+ok_at {r = Ok p} e = cc
+ok_at {r = Err p} e = impossible cc
+
+pub no_key : {s : List ℕ} {at x : ℕ} {r : Sought} → Seeks s at x true r → result_ok r ≡ None → AtKey s at x None
+no_key {s} {at} f e vs v h g = subst (FindsIn s at (collection map vs) None) (go (key_sight f h g) e) missing
+  where
+    go : {r : Sought} → Key v vs (at + 4) r → result_ok r ≡ None → absent ≡ lookup v vs
+    go (present q us ws l w d i j) e = impossible cc
+    go (belongs q us ws d i j k) e = sym d

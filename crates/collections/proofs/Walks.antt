@@ -9,7 +9,7 @@ use Rattle.values.specs.Value.{Kind, Value, Items, none, more, collection}
 use Rattle.values.specs.Items.{nth}
 use Rattle.values.specs.Place.{At, ItemsAt}
 use Rattle.values.proofs.Records.{uncons, word_size, items_to, items_none}
-use Rattle.collections.specs.declared.finding.Found.TheVariants.{At as Place, Nothing}
+use Rattle.std.specs.Prelude.{Some, None}
 use Rattle.collections.specs.Finding.{HoldsCollection, FindsIn, found, missing, Item}
 
 -- the items from p on are left, and P holds of them
@@ -76,7 +76,7 @@ nth_on v vs (suc k) f = let e : suc k - 1 ≡ k = omega arith in ap (nth vs) (sy
 
 -- ---- the k-th item
 
-pub item_found : {s : List ℕ} {at p : ℕ} (k left : ℕ) → Walk s at (λ (vs rest : Items). nth vs k ≡ nth rest left) p → p < at + word s at → left ≡ 0 → Item s at k (Place p)
+pub item_found : {s : List ℕ} {at p : ℕ} (k left : ℕ) → Walk s at (λ (vs rest : Items). nth vs k ≡ nth rest left) p → p < at + word s at → left ≡ 0 → Item s at k (Some p)
 unfolding nth
 item_found {s} {at} {p} k left w lt z kind vs h =
     let y = first_left lt (w.whole kind vs h) in
@@ -85,8 +85,8 @@ item_found {s} {at} {p} k left w lt z kind vs h =
     let i = y.inside in
     let n = word_size h in
     let l = word_size y.first-at in
-    subst (FindsIn s at (collection kind vs) (Place p)) e (found y.first-at m (omega arith))
+    subst (FindsIn s at (collection kind vs) (Some p)) e (found y.first-at m (omega arith))
 
-pub item_missing : {s : List ℕ} {at p : ℕ} (k left : ℕ) → Walk s at (λ (vs rest : Items). nth vs k ≡ nth rest left) p → at + word s at ≤ p → Item s at k Nothing
+pub item_missing : {s : List ℕ} {at p : ℕ} (k left : ℕ) → Walk s at (λ (vs rest : Items). nth vs k ≡ nth rest left) p → at + word s at ≤ p → Item s at k None
 unfolding nth
-item_missing {s} {at} k left w le kind vs h = subst (FindsIn s at (collection kind vs) Nothing) (sym (walk_end w le kind vs h)) missing
+item_missing {s} {at} k left w le kind vs h = subst (FindsIn s at (collection kind vs) None) (sym (walk_end w le kind vs h)) missing

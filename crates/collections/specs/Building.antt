@@ -1,39 +1,29 @@
 -- What building collections asks and promises. A collection that is being built has room for the 512 bytes of the longest value.
-use Rattle.std.specs.Prelude.{◌≡◌, List, ◌⊎◌, ℕ, ◌+◌, ◌≤◌, leb, length, cond}
+use Rattle.std.specs.Prelude.{◌≡◌, List, ◌⊎◌, ℕ, ◌+◌, ◌≤◌, leb, length, cond, Result, ⊤}
 use Rattle.std.proofs.Math.Option.{Option, none as absent, some}
 use Rattle.integers.specs.Bytes.{word}
 use Rattle.values.specs.Value.{Kind, set, sequence, map, number, Value, collection, Items, none, size, Shaped, value_limit}
 use Rattle.values.specs.Items.{same, snoc, insert, lookup, enter}
 use Rattle.values.specs.Place.{At, Holds, Outside}
-use Rattle.collections.specs.declared.building.Added.{Added}
-use Rattle.collections.specs.declared.building.Added.TheVariants.{Done as Put, Full as TooLong}
-use Rattle.collections.specs.declared.building.Entered.{Entered}
-use Rattle.collections.specs.declared.building.Entered.TheVariants.{Done, Clash, Full}
+use Rattle.std.specs.Prelude.{Ok, Err}
+use Rattle.prelude.specs.declared.Refusal.{Refusal}
+use Rattle.prelude.specs.declared.Refusal.TheVariants.{TooLarge, Clash}
 use Rattle.collections.specs.Finding.{HoldsKind}
 
 -- ---- answers
 
--- Document 01's numbers: 27 one key, two values; 28 value over 512.
-abbrev pub added_number : Added → ℕ
-added_number Put = 0
-added_number TooLong = 28
-
-abbrev pub entered_number : Entered → ℕ
-entered_number Done = 0
-entered_number Clash = 27
-entered_number Full = 28
+-- Done, or why nothing was done: one key and two values, or a value over 512 bytes.
+abbrev pub Added : Type 0
+Added = Result ⊤ Refusal
 
 -- A whole of n bytes is refused exactly where it is over the limit.
 abbrev pub added : ℕ → Added
-added n = cond (leb n value_limit) Put TooLong
-
-abbrev pub opened : ℕ → Entered
-opened n = cond (leb n value_limit) Done Full
+added n = cond (leb n value_limit) (Ok tt) (Err TooLarge)
 
 -- What entering a value answers, by what stands at its key: nothing, the same value or another.
-abbrev pub entry_answer : Option Value → Value → ℕ → Entered
-entry_answer absent v n = opened n
-entry_answer (some w) v n = cond (same w v) Done Clash
+abbrev pub entry_answer : Option Value → Value → ℕ → Added
+entry_answer absent v n = added n
+entry_answer (some w) v n = cond (same w v) (Ok tt) (Err Clash)
 
 -- ---- what is asked
 
@@ -58,13 +48,13 @@ pub record EntryRoom (s : List ℕ) (at x y : ℕ) : Type 0 where
 -- The collection at a place, whose items were vs, has the items ws now; where these are vs, nothing changed.
 pub record Builds (k : Kind) (s t : List ℕ) (at : ℕ) (vs ws : Items) (r : Added) : Type 0 where
   pub answers : r ≡ added (size (collection k ws))
-  pub made : r ≡ Put → At t at (collection k ws)
+  pub made : r ≡ Ok tt → At t at (collection k ws)
   pub still : ws ≡ vs → t ≡ s
 
 -- The item at x was added to the collection at a place.
 pub record Adds (k : Kind) (add : Items → Value → Items) (s t : List ℕ) (at x : ℕ) (r : Added) : Type 0 where
   pub frame : Outside s t at (at + value_limit)
-  pub refused : r ≡ TooLong → t ≡ s
+  pub refused : (e : Refusal) → r ≡ Err e → t ≡ s
   pub right : (vs : Items) (v : Value) → At s at (collection k vs) → At s x v → Builds k s t at vs (add vs v) r
 
 -- The item at x was added at the end of the sequence at a place.
@@ -76,16 +66,15 @@ abbrev pub Inserts : List ℕ → List ℕ → ℕ → ℕ → Added → Type 0
 Inserts = Adds set (λ (vs : Items) (v : Value). insert v vs)
 
 -- The map at a place, whose items were vs, has k mapped to v now.
-pub record Maps (s t : List ℕ) (at : ℕ) (vs : Items) (k v : Value) (r : Entered) : Type 0 where
+pub record Maps (s t : List ℕ) (at : ℕ) (vs : Items) (k v : Value) (r : Added) : Type 0 where
   pub answers : r ≡ entry_answer (lookup k vs) v (size (collection map (enter k v vs)))
-  pub made : r ≡ Done → At t at (collection map (enter k v vs))
+  pub made : r ≡ Ok tt → At t at (collection map (enter k v vs))
   pub still : enter k v vs ≡ vs → t ≡ s
 
 -- The entry of the key at x and the value at y was put in order into the map at a place.
-pub record Enters (s t : List ℕ) (at x y : ℕ) (r : Entered) : Type 0 where
+pub record Enters (s t : List ℕ) (at x y : ℕ) (r : Added) : Type 0 where
   pub frame : Outside s t at (at + value_limit)
-  pub clash : r ≡ Clash → t ≡ s
-  pub full : r ≡ Full → t ≡ s
+  pub refused : (e : Refusal) → r ≡ Err e → t ≡ s
   pub right : (vs : Items) (k v : Value) → At s at (collection map vs) → At s x k → At s y v → Maps s t at vs k v r
 
 -- An empty collection stands at a place, of any kind that may be empty.

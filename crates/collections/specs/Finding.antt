@@ -1,14 +1,22 @@
 -- What finding in collections asks and answers.
-use Rattle.std.specs.Prelude.{◌≡◌, Bool, true, false, not, List, ℕ, ◌+◌, ◌≤◌}
+use Rattle.std.specs.Prelude.{◌≡◌, Bool, true, false, not, List, Result, ℕ, ◌+◌, ◌≤◌}
+use Rattle.std.specs.declared.option.Option.{Option as Maybe}
 use Rattle.std.proofs.Math.Option.{Option, none as absent, some}
 use Rattle.values.specs.Value.{Kind, set, map, Value, collection, Items, none, more, count, size, order}
 use Rattle.values.specs.Items.{is_member, nth, lookup, in_order}
 use Rattle.values.specs.Place.{At, ItemsAt}
 use Rattle.integers.specs.Bytes.{word}
-use Rattle.collections.specs.declared.finding.Found.{Found}
-use Rattle.collections.specs.declared.finding.Found.TheVariants.{At as Place, Nothing}
-use Rattle.collections.specs.declared.finding.Sought.{Sought}
-use Rattle.collections.specs.declared.finding.Sought.TheVariants.{Here, Before}
+use Rattle.std.specs.Prelude.{Ok, Err, Some, None}
+
+-- ---- the types of answers
+
+-- where what was looked for stands, if it is there
+abbrev pub Found : Type 0
+Found = Maybe ℕ
+
+-- where a value stands, or else before what it belongs
+abbrev pub Sought : Type 0
+Sought = Result ℕ ℕ
 
 -- ---- what is asked
 
@@ -28,8 +36,8 @@ pub record HoldsCollection (s : List ℕ) (at : ℕ) : Type 0 where
 -- The first item, from a place on, that is not lower than v. Of entries only the keys are looked at: `key` says that the next item is one.
 -- (Among members each item counts as one.)
 unfoldable pub seek : Bool → Bool → Value → Items → ℕ → Sought
-seek entries key v none p = Before p
-seek entries true v (more w ws) p = in_order (order v w) (Before p) (Here p) (seek entries (not entries) v ws (p + size w))
+seek entries key v none p = Err p
+seek entries true v (more w ws) p = in_order (order v w) (Err p) (Ok p) (seek entries (not entries) v ws (p + size w))
 seek entries false v (more w ws) p = seek entries true v ws (p + size w)
 
 -- r is where the value at x stands or belongs among the members of a set or, of entries, among the keys of a map.
@@ -43,8 +51,8 @@ pub record SeeksOn (s : List ℕ) (at x : ℕ) (entries : Bool) (p : ℕ) : Type
 
 -- A place between two others where the value stands, if there is one.
 pub data Finds (s : List ℕ) (from to : ℕ) : Found → Option Value → Type 0 where
-  found : {p : ℕ} {v : Value} → At s p v → from ≤ p → p + size v ≤ to → Finds s from to (Place p) (some v)
-  missing : Finds s from to Nothing absent
+  found : {p : ℕ} {v : Value} → At s p v → from ≤ p → p + size v ≤ to → Finds s from to (Some p) (some v)
+  missing : Finds s from to None absent
 
 -- The record is one of those within the collection at a place.
 abbrev pub FindsIn : List ℕ → ℕ → Value → Found → Option Value → Type 0

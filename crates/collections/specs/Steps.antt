@@ -4,11 +4,9 @@ use Rattle.integers.specs.Bytes.{word}
 use Rattle.values.specs.Value.{Kind, map, number, Value, collection, Items, more, size, sizes, Shaped, value_limit}
 use Rattle.values.specs.Items.{join}
 use Rattle.values.specs.Place.{At, ItemsAt, Holds, Outside}
-use Rattle.collections.specs.declared.building.Added.{Added}
-use Rattle.collections.specs.declared.building.Added.TheVariants.{Done as Put, Full as TooLong}
-use Rattle.collections.specs.declared.building.Entered.{Entered}
-use Rattle.collections.specs.declared.building.Entered.TheVariants.{Done, Full}
-use Rattle.collections.specs.Building.{added, opened, Apart}
+use Rattle.std.specs.Prelude.{Ok, Err}
+use Rattle.prelude.specs.declared.Refusal.{Refusal}
+use Rattle.collections.specs.Building.{Added, added, Apart}
 
 -- The item at x can go in before what stands between two places.
 pub record Gap (s : List ℕ) (p end x : ℕ) : Type 0 where
@@ -34,15 +32,15 @@ pub record Slot (s : List ℕ) (at p x : ℕ) : Type 0 where
 -- The item at x went into the collection at a place, before what stood at p, and the collection is of this kind.
 pub record AddsAt (s t : List ℕ) (at p x kind : ℕ) (r : Added) : Type 0 where
   pub frame : Outside s t at (at + value_limit)
-  pub refused : r ≡ TooLong → t ≡ s
+  pub refused : (e : Refusal) → r ≡ Err e → t ≡ s
   pub answers : r ≡ added (word s at + word s x)
-  pub made : (k : Kind) (us ws : Items) (v : Value) → r ≡ Put → kind ≡ number k → ItemsAt s (at + 4) p us → ItemsAt s p (at + word s at) ws → At s x v
+  pub made : (k : Kind) (us ws : Items) (v : Value) → r ≡ Ok tt → kind ≡ number k → ItemsAt s (at + 4) p us → ItemsAt s p (at + word s at) ws → At s x v
       → Shaped k (join us (more v ws)) → At t at (collection k (join us (more v ws)))
 
 -- The entry of the key at x and the value at y went into the map at a place, before what stood at p.
-pub record EntersAt (s t : List ℕ) (at p x y : ℕ) (r : Entered) : Type 0 where
+pub record EntersAt (s t : List ℕ) (at p x y : ℕ) (r : Added) : Type 0 where
   pub frame : Outside s t at (at + value_limit)
-  pub refused : r ≡ Full → t ≡ s
-  pub answers : r ≡ opened (word s at + word s x + word s y)
-  pub made : (us ws : Items) (k v : Value) → r ≡ Done → ItemsAt s (at + 4) p us → ItemsAt s p (at + word s at) ws → At s x k → At s y v
+  pub refused : (e : Refusal) → r ≡ Err e → t ≡ s
+  pub answers : r ≡ added (word s at + word s x + word s y)
+  pub made : (us ws : Items) (k v : Value) → r ≡ Ok tt → ItemsAt s (at + 4) p us → ItemsAt s p (at + word s at) ws → At s x k → At s y v
       → Shaped map (join us (more k (more v ws))) → At t at (collection map (join us (more k (more v ws))))

@@ -5,25 +5,8 @@ ghost use Rattle.values.specs.Place.{Holds};
 ghost use Rattle.values.specs.Contract.{Length, OfKind};
 ghost use Rattle.collections.specs.Finding.{HoldsKind, HoldsCollection, Seeks, SeeksOn, Contains, AtKey, Item, Counted};
 
-use integers::Order;
+use std::cmp::Ordering;
 use values::Value;
-
-// Where the record that was looked for stands.
-#[derive(Clone, Copy)]
-pub enum Found {
-    At(usize),
-    Nothing,
-}
-
-// Where a value stands among the members of a set or the keys of a map, or before which of them it belongs.
-#[derive(Clone, Copy)]
-pub enum Sought {
-    Here(usize),
-    Before(usize),
-}
-
-// The bytes of an integer's record.
-const INTEGER: usize = 8;
 
 // The length of the record at a place; that of an integer is known by its kind.
 fn past(s: &[u8], p: usize) -> usize
@@ -31,7 +14,7 @@ fn past(s: &[u8], p: usize) -> usize
     ensures { Length s.now p result }
 {
     if values::kind_of(s, p) == Value::INTEGER {
-        return INTEGER;
+        return Value::INTEGER_BYTES;
     }
     values::length_of(s, p)
 }
@@ -49,11 +32,10 @@ fn pass_lower(s: &[u8], at: usize, x: usize) -> usize
             return p;
         }
         let y = values::integer_at(s, p);
-        let o = integers::compare(z, y);
-        let Order::Higher = o else {
+        if integers::compare(z, y).is_le() {
             return p;
-        };
-        p += INTEGER;
+        }
+        p += Value::INTEGER_BYTES;
     }
     p
 }
@@ -72,8 +54,9 @@ fn start(s: &[u8], at: usize, x: usize, entries: bool) -> usize
     pass_lower(s, at, x)
 }
 
-// The place of the value at x among the members of the set at a place, or among the keys of the map there.
-pub fn seek(s: &[u8], at: usize, x: usize, entries: bool) -> Sought
+// The place of the value at x among the members of the set at a place, or among the keys of the map there; or else the place before
+// which it belongs.
+pub fn seek(s: &[u8], at: usize, x: usize, entries: bool) -> Result<usize, usize>
     requires { HoldsCollection s.now at × Holds s.now x }
     ensures { Seeks s.now at x entries result }
 {
@@ -83,13 +66,13 @@ pub fn seek(s: &[u8], at: usize, x: usize, entries: bool) -> Sought
     while p < end {
         if key {
             match values::compare(s, x, p) {
-                Order::Lower => {
-                    return Sought::Before(p);
+                Ordering::Less => {
+                    return Err(p);
                 }
-                Order::Same => {
-                    return Sought::Here(p);
+                Ordering::Equal => {
+                    return Ok(p);
                 }
-                Order::Higher => {}
+                Ordering::Greater => {}
             }
             key = !entries;
         } else {
@@ -97,16 +80,16 @@ pub fn seek(s: &[u8], at: usize, x: usize, entries: bool) -> Sought
         }
         p += past(s, p);
     }
-    Sought::Before(p)
+    Err(p)
 }
 
 // The place of the value at x among the members of the set at a place, in which there are often none yet.
-pub fn seek_member(s: &[u8], at: usize, x: usize) -> Sought
+pub fn seek_member(s: &[u8], at: usize, x: usize) -> Result<usize, usize>
     requires { HoldsCollection s.now at × Holds s.now x }
     ensures { Seeks s.now at x false result }
 {
     if values::length_of(s, at) == Value::HEAD {
-        return Sought::Before(at + Value::HEAD);
+        return Err(at + Value::HEAD);
     }
     seek(s, at, x, false)
 }
@@ -116,25 +99,20 @@ pub fn contains(s: &[u8], at: usize, x: usize) -> bool
     requires { HoldsKind set s.now at × Holds s.now x }
     ensures { Contains s.now at x result }
 {
-    match seek(s, at, x, false) {
-        Sought::Here(_) => true,
-        Sought::Before(_) => false,
-    }
+    seek(s, at, x, false).is_ok()
 }
 
 // What stands at the key at k, in the map at a place.
-pub fn find_key(s: &[u8], at: usize, k: usize) -> Found
+pub fn find_key(s: &[u8], at: usize, k: usize) -> Option<usize>
     requires { HoldsKind map s.now at × Holds s.now k }
     ensures { AtKey s.now at k result }
 {
-    match seek(s, at, k, true) {
-        Sought::Here(p) => Found::At(p + values::length_of(s, p)),
-        Sought::Before(_) => Found::Nothing,
-    }
+    let p = seek(s, at, k, true).ok()?;
+    Some(p + values::length_of(s, p))
 }
 
 // The k-th item of the collection at a place, from 0.
-pub fn item_at(s: &[u8], at: usize, k: usize) -> Found
+pub fn item_at(s: &[u8], at: usize, k: usize) -> Option<usize>
     requires { HoldsCollection s.now at }
     ensures { Item s.now at k result }
 {
@@ -143,12 +121,12 @@ pub fn item_at(s: &[u8], at: usize, k: usize) -> Found
     let mut left = k;
     while p < end {
         if left == 0 {
-            return Found::At(p);
+            return Some(p);
         }
         left -= 1;
         p += values::length_of(s, p);
     }
-    Found::Nothing
+    None
 }
 
 // How many items the collection at a place has.

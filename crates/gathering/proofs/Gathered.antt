@@ -12,13 +12,13 @@ use Rattle.values.specs.Contract.{Copyable, Copied}
 use Rattle.values.proofs.Records.{holds, items_to}
 use Rattle.values.proofs.Encoding.{collection_size, none_sizes}
 use Rattle.values.proofs.Frame.{outside_wider, outside_both, items_below}
-use Rattle.collections.specs.declared.building.Added.{Added}
+use Rattle.collections.specs.Building.{Added}
 use Rattle.collections.specs.Building.{Empties}
 use Rattle.collections.proofs.Additions.{added_put}
 use Rattle.operators.specs.Answer.{Answer, is}
 use Rattle.operators.specs.Gather.{insert_all}
 use Rattle.operator_laws.proofs.Gather.{sizes_insert_all}
-use Rattle.calling.specs.declared.Applied.TheVariants.{Done}
+use Rattle.std.specs.Prelude.{Ok}
 use Rattle.calling.specs.Scratch.{second, workspace, Kept}
 use Rattle.calling.specs.Operands.{Has, OnItems}
 use Rattle.calling.proofs.Framing.{kept_then, kept_outside, copyable_down, copied_kept}
@@ -60,19 +60,22 @@ module _ {s t : List ℕ} {base n : ℕ} (h : Has sequence s base) (q : n ≡ wo
 
   module _ {u : List ℕ} {r : Added} (i : InsertsAll themselves t u (base + 4) (base + n) (base + second) r) where
     -- they fit
-    all_in : At u (base + second) (collection set (insert_all none h.held.items))
-    all_in =
+    pub elements_fit : r ≡ Ok tt
+    elements_fit =
         let vs = h.held.items in
         let g = gathered h.held.here n q e h.room i in
         let short = h.held.here.fine.short in
         let c₁ = collection_size sequence vs in
         let c₂ = collection_size set (insert_all none vs) in
-        g.made (g.answers ∙ sym (added_put (size (collection set (insert_all none vs))) (omega (arith, sizes_insert_all none vs, none_sizes))))
+        g.answers ∙ sym (added_put (size (collection set (insert_all none vs))) (omega (arith, sizes_insert_all none vs, none_sizes)))
+
+    all_in : At u (base + second) (collection set (insert_all none h.held.items))
+    all_in = (gathered h.held.here n q e h.room i).made elements_fit
 
     pub elements_copy : Copyable u (base + second) base
     elements_copy = copyable_down (omega arith) (holds all_in)
 
-    pub elements_done : {w : List ℕ} {m : ℕ} → Copied u w (base + second) base m → OnItems sequence elems s w base Done
+    pub elements_done : {w : List ℕ} {m : ℕ} → Copied u w (base + second) base m → OnItems sequence elems s w base (Ok tt)
     elements_done c =
         items_by {f = elems} (kept_then (gathered_kept h.held.here n q e h.room i) (copied_kept c)) h.held.here
         (is_done refl (c.here _ all_in))

@@ -13,11 +13,12 @@ use Rattle.values.specs.Place.{At, ItemsAt, Holds, HoldsItems, Outside}
 use Rattle.values.proofs.Encoding.{collection_size}
 use Rattle.values.proofs.Records.{holds}
 use Rattle.values.proofs.Frame.{outside_none, outside_both, word_below, word_above}
-use Rattle.collections.specs.declared.building.Added.{Added}
-use Rattle.collections.specs.declared.building.Added.TheVariants.{Done as Put, Full as TooLong}
+use Rattle.collections.specs.Building.{Added}
+use Rattle.std.specs.Prelude.{Ok, Err}
+use Rattle.prelude.specs.declared.Refusal.{Refusal}
 use Rattle.collections.specs.Building.{Apart, Room, Inserts}
 use Rattle.collections.proofs.Additions.{added_put, added_long}
-use Rattle.collections.proofs.Built.{at_apart, long_past}
+use Rattle.collections.proofs.Built.{at_apart, long_past, long_is}
 use Rattle.operators.specs.Gather.{insert_all}
 use Rattle.operator_laws.proofs.Gather.{sizes_grow_all}
 use Rattle.gathering.specs.Inserting.{Growing, Grown, InsertsAll, themselves}
@@ -114,7 +115,7 @@ module _ {g : Items → Items} {s t : List ℕ} {from to at p : ℕ} (w : Gather
 
   -- f puts in what g gathers of one item
   module _ {f : Items → Value → Items} (law : (us : Items) (v : Value) (rest : Items) → insert_all us (g (more v rest)) ≡ insert_all (f us v) (g rest)) {u : List ℕ} {r : Added} (lt : p < to) (apart : (to ≤ at) ⊎ (at + value_limit ≤ from)) (q : Steps f t u at p r) where
-    pub gather_on : r ≡ Put → (n : ℕ) → n ≡ word s p → Gathering g s u from to at (p + n)
+    pub gather_on : r ≡ Ok tt → (n : ℕ) → n ≡ word s p → Gathering g s u from to at (p + n)
     gather_on e n d =
         let o : Outside s u at (at + value_limit) = outside_both w.frame q.frame in
         record {
@@ -127,7 +128,7 @@ module _ {g : Items → Items} {s t : List ℕ} {from to at p : ℕ} (w : Gather
               record { us = f k.us y.first; made = x.made e; left = items_on y n d (y.so ∙ law k.us y.first y.rest) };
         }
 
-    pub gather_full : r ≡ TooLong → InsertsAll g s u from to at TooLong
+    pub gather_full : {why : Refusal} → r ≡ Err why → InsertsAll g s u from to at (Err why)
     gather_full e =
         record {
           frame = outside_both w.frame q.frame;
@@ -140,10 +141,10 @@ module _ {g : Items → Items} {s t : List ℕ} {from to at p : ℕ} (w : Gather
               let c₁ = collection_size set (f k.us y.first) in
               let c₂ = collection_size set (insert_all vs (g ws)) in
               let m = ap sizes whole in
-              record { answers = added_long (size (collection set (insert_all vs (g ws)))) (omega (arith, sizes_grow_all (f k.us y.first) (g y.rest))); made = λ z. impossible cc };
+              record { answers = long_is (size (collection set (f k.us y.first))) x.answers e ∙ added_long (size (collection set (insert_all vs (g ws)))) (omega (arith, sizes_grow_all (f k.us y.first) (g y.rest))); made = λ z. impossible cc };
         }
 
-  pub gather_end : g none ≡ none → to ≤ p → InsertsAll g s t from to at Put
+  pub gather_end : g none ≡ none → to ≤ p → InsertsAll g s t from to at (Ok tt)
   unfolding insert_all
   gather_end e le =
       record {

@@ -15,7 +15,7 @@ use Rattle.values.proofs.Frame.{items_moved, items_below, items_above, outside_n
 use Rattle.values.proofs.Written.{headed_collection}
 use Rattle.collections.specs.Finding.{HoldsKind}
 use Rattle.operators.specs.Answer.{Answer, is}
-use Rattle.calling.specs.declared.Applied.TheVariants.{Done}
+use Rattle.std.specs.Prelude.{Ok}
 use Rattle.calling.specs.Scratch.{Kept}
 use Rattle.calling.proofs.Answering.{is_done}
 use Rattle.calling.proofs.Framing.{kept_outside}
@@ -100,7 +100,7 @@ module _ {k : Kind} {R : Items → Items → Items → Type 0} {s t : List ℕ} 
   -- none are left, and the heading is written anew
   pub pack_end : {l : Kind} {f : Items → Answer} {u : List ℕ} {n : ℕ} → end ≤ p → at + n ≡ q → PutHead t u at n (number l)
       → ((vs ws : Items) → At s at (collection k vs) → 4 + sizes ws ≤ value_limit → R vs ws none → Shaped l ws × (f vs ≡ is (collection l ws)))
-      → OnItems k f s u at Done
+      → OnItems k f s u at (Ok tt)
   pack_end {l} {f} {u} {n} le e h g =
       let b = w.behind in
       let i = w.short in

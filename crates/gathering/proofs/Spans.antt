@@ -24,7 +24,7 @@ use Rattle.operators.specs.Answer.{is, refused, too_large}
 use Rattle.operators.specs.Gather.{up_from}
 use Rattle.operators.specs.Sets.{consecutive}
 use Rattle.operator_laws.proofs.Ranges.{ascending_up, sizes_up, counting_is}
-use Rattle.calling.specs.declared.Applied.TheVariants.{Done}
+use Rattle.std.specs.Prelude.{Ok}
 use Rattle.calling.specs.Applied.{Gives}
 use Rattle.calling.proofs.Framing.{kept_outside, kept_then}
 use Rattle.calling.proofs.Answering.{is_done}
@@ -105,7 +105,7 @@ counting_off z n h = counting_is z n ∙ ap (λ (b : Bool). cond b (is (collecti
 counting_on : (z : ℤ) (n : ℕ) → 4 + 8 * n ≤ value_limit → consecutive z n ≡ is (collection set (up_from z n))
 counting_on z n h = counting_is z n ∙ ap (λ (b : Bool). cond b (is (collection set (up_from z n))) (refused too_large)) (le-leb (4 + 8 * n) value_limit h)
 
-pub counting_gives : {s t u : List ℕ} {base : ℕ} {z : ℤ} (n : ℕ) → SFits w32 z → 4 + 8 * n ≤ value_limit → PutIntegers s t (base + 4) (machine z) n → PutHead t u base (4 + 8 * n) 3 → Gives (consecutive z n) s u base Done
+pub counting_gives : {s t u : List ℕ} {base : ℕ} {z : ℤ} (n : ℕ) → SFits w32 z → 4 + 8 * n ≤ value_limit → PutIntegers s t (base + 4) (machine z) n → PutHead t u base (4 + 8 * n) 3 → Gives (consecutive z n) s u base (Ok tt)
 counting_gives {s} {t} {u} {base} {z} n f h p q =
     let here = subst (λ (x : ℤ). ItemsAt t (base + 4) (base + 4 + 8 * n) (up_from x n)) (to_z-of_z f) p.here in
     record {

@@ -2,8 +2,8 @@
 use Rattle.std.specs.Prelude.{◌≡◌, List, ◌⊎◌, ℕ, ◌+◌, ◌≤◌, length}
 use Rattle.values.specs.Value.{set, collection, Items, size, value_limit}
 use Rattle.values.specs.Place.{At, ItemsAt, Outside}
-use Rattle.collections.specs.declared.building.Added.{Added}
-use Rattle.collections.specs.declared.building.Added.TheVariants.{Done as Put}
+use Rattle.collections.specs.Building.{Added}
+use Rattle.std.specs.Prelude.{Ok}
 use Rattle.collections.specs.Finding.{HoldsKind}
 use Rattle.collections.specs.Building.{added}
 use Rattle.operators.specs.Gather.{insert_all}
@@ -17,7 +17,7 @@ pub record Growing (s : List ℕ) (from to at : ℕ) : Type 0 where
 -- The members of the set at a place are us now; refused exactly where that is over 512 bytes.
 pub record Grown (t : List ℕ) (at : ℕ) (us : Items) (r : Added) : Type 0 where
   pub answers : r ≡ added (size (collection set us))
-  pub made : r ≡ Put → At t at (collection set us)
+  pub made : r ≡ Ok tt → At t at (collection set us)
 
 -- What is gathered of the items went into the set at a place.
 pub record InsertsAll (gathered : Items → Items) (s t : List ℕ) (from to at : ℕ) (r : Added) : Type 0 where

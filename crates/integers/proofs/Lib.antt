@@ -6,7 +6,6 @@ pub mod Quotients
 pub mod Ordered
 pub mod Written
 mod Sample
-mod Signed
 mod Machine
 mod Ends
 mod Rest

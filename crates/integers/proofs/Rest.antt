@@ -51,21 +51,18 @@ no_rest (negsuc n) y e f = never (sym e)
 
 -- ---- what is returned
 
--- the machine's rest
-abbrev pub rest : ℤ → ℤ → ℤ
-rest left right = read (rem_z (read left) (read right))
-
-module _ {left right : ℤ} (fl : SFits w32 left) (fr : SFits w32 right) (other : right ≡ pos 0 → ⊥) where
-  turned_is : turned (rest left right) (read right) ≡ mod_ℤ left right
+-- r is the machine's rest
+module _ {left right r : ℤ} (fl : SFits w32 left) (fr : SFits w32 right) (other : right ≡ pos 0 → ⊥) (is : r ≡ rem_z (read left) (read right)) where
+  turned_is : turned (read r) (read right) ≡ mod_ℤ left right
   turned_is =
-      ap₂ turned (is_read (both_read rem_z fl fr) (remainder_range left right (fits_range left fl))) (to_z-of_z fr) ∙ sym (mod_turned left right other)
+      ap₂ turned (is_read (is ∙ both_read rem_z fl fr) (remainder_range left right (fits_range left fl))) (to_z-of_z fr) ∙ sym (mod_turned left right other)
 
-  pub as_it_is : turned (rest left right) (read right) ≡ rest left right → rest left right ≡ mod_ℤ left right
+  pub as_it_is : turned (read r) (read right) ≡ read r → read r ≡ mod_ℤ left right
   as_it_is e = sym e ∙ turned_is
 
-  module _ (e : turned (rest left right) (read right) ≡ rest left right +ℤ read right) where
-    pub more_fits : SFits w32 (rest left right +ℤ read right)
+  module _ (e : turned (read r) (read right) ≡ read r +ℤ read right) where
+    pub more_fits : SFits w32 (read r +ℤ read right)
     more_fits = is_fits (sym e ∙ turned_is) (modulus_range left right (fits_range right fr) other)
 
-    pub with_right : read (rest left right +ℤ read right) ≡ mod_ℤ left right
+    pub with_right : read (read r +ℤ read right) ≡ mod_ℤ left right
     with_right = is_read (sym e ∙ turned_is) (modulus_range left right (fits_range right fr) other)

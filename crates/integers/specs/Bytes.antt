@@ -43,8 +43,3 @@ integer_at s at = of_bits (bits32 s at)
 pub record IsWord (s : List ℕ) (at r : ℕ) : Type 0 where
   pub is : r ≡ word s at
   pub low : r < 65536
-
--- r is the 32 bits of an integer
-pub record IsBits (z : ℤ) (r : ℕ) : Type 0 where
-  pub is : r ≡ bits_of z
-  pub low : r < 4294967296

@@ -1,8 +1,8 @@
 -- The integers of a sheet: their range, and what each operation on them answers.
-use Rattle.std.specs.Prelude.{◌≡◌, Bool, true, ◌&&◌, cond, ℕ, zero, suc, ◌/◌, ℤ, pos, negsuc, neg_ℤ, nat_abs, ◌+ℤ◌, ◌-ℤ◌, ◌*ℤ◌}
+use Rattle.std.specs.Prelude.{◌≡◌, Bool, true, ◌&&◌, cond, zero, suc, ◌/◌, ℤ, pos, negsuc, neg_ℤ, nat_abs, ◌+ℤ◌, ◌-ℤ◌, ◌*ℤ◌, Result, Ok, Err}
 use Rattle.std.specs.Int.Signed.{le_z}
-use Rattle.integers.specs.declared.Number.{Number}
-use Rattle.integers.specs.declared.Number.TheVariants.{Is, OutOfRange, ByZero}
+use Rattle.prelude.specs.declared.Refusal.{Refusal}
+use Rattle.prelude.specs.declared.Refusal.TheVariants.{OutOfRange, ByZero}
 
 -- ---- the range, named here and nowhere else
 
@@ -20,19 +20,17 @@ InRange z = in_range z ≡ true
 
 -- ---- answers
 
--- the number of each: 0, 21 (integer out of range) or 22 (div, rem or mod by 0)
-abbrev pub refusal_of : Number → ℕ
-refusal_of (Is z) = 0
-refusal_of OutOfRange = 21
-refusal_of ByZero = 22
+-- a whole number, or 21 (integer out of range) or 22 (div, rem or mod by 0)
+abbrev pub Number : Type 0
+Number = Result ℤ Refusal
 
 -- a whole number that an operation gives, where it is in range
 unfoldable pub ranged : ℤ → Number
-ranged z = cond (in_range z) (Is z) OutOfRange
+ranged z = cond (in_range z) (Ok z) (Err OutOfRange)
 
 -- a whole number that a division by `right` gives: of 0, none
 abbrev pub divided : ℤ → ℤ → Number
-divided (pos zero) z = ByZero
+divided (pos zero) z = Err ByZero
 divided (pos (suc n)) z = ranged z
 divided (negsuc n) z = ranged z
 

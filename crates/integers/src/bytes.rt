@@ -1,7 +1,7 @@
 // Numbers of 16 bits and integers as bytes, the lowest byte first.
 ghost use Rattle.std.specs.Prelude.{◌≡◌, ◌+◌, ◌<◌, ◌≤◌, length};
 ghost use Rattle.std.proofs.lemmas.List.Edits.{sets};
-ghost use Rattle.integers.specs.Bytes.{pair, integer_bytes, integer_at, IsWord, IsBits};
+ghost use Rattle.integers.specs.Bytes.{pair, integer_bytes, integer_at, IsWord};
 
 // The 16 bits at a place.
 pub fn read16(s: &[u8], at: usize) -> usize
@@ -20,7 +20,7 @@ pub fn put16(s: &mut [u8], at: usize, n: usize)
     s[at + 1] = (n / 256) as u8;
 }
 
-// The integer at a place. Bits from 2^31 on are read by their distance to the top, −1.
+// The integer at a place.
 pub fn read32(s: &[u8], at: usize) -> i32
     requires { at + 4 ≤ length s.now }
     ensures { result ≡ integer_at s.now at }
@@ -28,21 +28,7 @@ pub fn read32(s: &[u8], at: usize) -> i32
     let low = read16(s, at);
     let high = read16(s, at + 2);
     let bits = low + 65536 * high;
-    if bits < 2147483648 {
-        return bits as i32;
-    }
-    let down = (4294967295 - bits) as i32;
-    -1 - down
-}
-
-// The 32 bits of an integer.
-fn bits_of(z: i32) -> usize
-    ensures { IsBits z result }
-{
-    if z < 0 {
-        return 4294967295 - ((-1 - z) as usize);
-    }
-    z as usize
+    (bits as u32).cast_signed()
 }
 
 // Stores an integer at a place.
@@ -50,7 +36,7 @@ pub fn put32(s: &mut [u8], at: usize, z: i32)
     requires { at + 4 ≤ length s.old }
     ensures { s.new ≡ sets s.old at (integer_bytes z) }
 {
-    let bits = bits_of(z);
+    let bits = z.cast_unsigned() as usize;
     put16(s, at, bits % 65536);
     put16(s, at + 2, bits / 65536);
 }

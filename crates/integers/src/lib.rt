@@ -1,122 +1,79 @@
 // The integers of a sheet at 32 bits, with an exact answer at 0 and at the range's ends.
 #![tactic(auto)]
 
-ghost use Rattle.std.specs.Prelude.{◌≡◌, pos, negsuc};
-ghost use Rattle.std.specs.Int.Signed.{lt_z};
+ghost use Rattle.std.specs.Prelude.{◌≡◌, pos};
 ghost use Rattle.integers.specs.Whole.{ranged, mod_ℤ, sum_of, difference_of, product_of, quotient_of, remainder_of, modulus_of, negation_of, absolute_of};
 ghost use Rattle.integers.specs.Order.{order_ℕ, order_ℤ};
 
+use prelude::Refusal;
+use std::cmp::Ordering;
+
 pub mod bytes;
 
-// What an operation answers: an integer, 21 or 22.
-#[derive(Clone, Copy)]
-pub enum Number {
-    Is(i32),
-    OutOfRange,
-    ByZero,
-}
-
-impl Number {
-    // The range of an integer, named here and nowhere else.
-    pub const LEAST: i32 = -2147483648;
-
-    pub const GREATEST: i32 = 2147483647;
-}
-
-// The order of two of a kind: the first is lower, the same or higher.
-#[derive(Clone, Copy)]
-pub enum Order {
-    Lower,
-    Same,
-    Higher,
-}
-
-// The exact sum, difference or product of two integers, which 64 bits hold, as an answer.
-fn settle(z: i64) -> Number
-    ensures { result ≡ ranged z }
-{
-    if z < Number::LEAST as i64 {
-        return Number::OutOfRange;
-    }
-    if z <= Number::GREATEST as i64 {
-        return Number::Is(z as i32);
-    }
-    Number::OutOfRange
-}
-
 // left + right
-pub fn add(left: i32, right: i32) -> Number
+pub fn add(left: i32, right: i32) -> Result<i32, Refusal>
     ensures { result ≡ sum_of left right }
 {
-    settle(left as i64 + right as i64)
+    left.checked_add(right).ok_or(Refusal::OutOfRange)
 }
 
 // left − right
-pub fn sub(left: i32, right: i32) -> Number
+pub fn sub(left: i32, right: i32) -> Result<i32, Refusal>
     ensures { result ≡ difference_of left right }
 {
-    settle(left as i64 - right as i64)
+    left.checked_sub(right).ok_or(Refusal::OutOfRange)
 }
 
 // left × right
-pub fn mul(left: i32, right: i32) -> Number
+pub fn mul(left: i32, right: i32) -> Result<i32, Refusal>
     ensures { result ≡ product_of left right }
 {
-    settle(left as i64 * right as i64)
+    left.checked_mul(right).ok_or(Refusal::OutOfRange)
 }
 
 // −z, which is out of range for the least integer alone
-pub fn neg(z: i32) -> Number
+pub fn neg(z: i32) -> Result<i32, Refusal>
     ensures { result ≡ negation_of z }
 {
-    if z == Number::LEAST {
-        return Number::OutOfRange;
-    }
-    Number::Is(-z)
+    z.checked_neg().ok_or(Refusal::OutOfRange)
 }
 
 // abs z
-pub fn abs(z: i32) -> Number
+pub fn abs(z: i32) -> Result<i32, Refusal>
     ensures { result ≡ absolute_of z }
 {
     if z < 0 {
         return neg(z);
     }
-    Number::Is(z)
+    Ok(z)
 }
 
 // left div right, which cuts toward zero. By −1 it is −left, which may be out of range.
-pub fn div(left: i32, right: i32) -> Number
+pub fn div(left: i32, right: i32) -> Result<i32, Refusal>
     ensures { result ≡ quotient_of left right }
 {
     if right == 0 {
-        return Number::ByZero;
+        return Err(Refusal::ByZero);
     }
-    if right == -1 {
-        return neg(left);
-    }
-    Number::Is(left / right)
+    left.checked_div(right).ok_or(Refusal::OutOfRange)
 }
 
 // left rem right, which has the dividend's sign. By −1 nothing is left.
-pub fn rem(left: i32, right: i32) -> Number
+pub fn rem(left: i32, right: i32) -> Result<i32, Refusal>
     ensures { result ≡ remainder_of left right }
 {
     if right == 0 {
-        return Number::ByZero;
+        return Err(Refusal::ByZero);
     }
-    if right == -1 {
-        return Number::Is(0);
-    }
-    Number::Is(left % right)
+    Ok(left.wrapping_rem(right))
 }
 
-// left mod right, from the machine's rest, which has the dividend's sign
+// left mod right, from the machine's rest, which has the dividend's sign. By −1 nothing is left.
 fn floor_rest(left: i32, right: i32) -> i32
-    requires { (right ≡ pos 0 → ⊥) × (right ≡ negsuc 0 → ⊥) }
+    requires { right ≡ pos 0 → ⊥ }
     ensures { result ≡ mod_ℤ left right }
 {
-    let rest = left % right;
+    let rest = left.wrapping_rem(right);
     if rest < 0 {
         if right < 0 {
             return rest;
@@ -132,48 +89,26 @@ fn floor_rest(left: i32, right: i32) -> i32
     rest
 }
 
-// left mod right, which has the divisor's sign. By −1 nothing is left.
-pub fn modulo(left: i32, right: i32) -> Number
+// left mod right, which has the divisor's sign
+pub fn modulo(left: i32, right: i32) -> Result<i32, Refusal>
     ensures { result ≡ modulus_of left right }
 {
     if right == 0 {
-        return Number::ByZero;
+        return Err(Refusal::ByZero);
     }
-    if right == -1 {
-        return Number::Is(0);
-    }
-    Number::Is(floor_rest(left, right))
-}
-
-// left < right
-pub fn less(left: i32, right: i32) -> bool
-    ensures { result ≡ lt_z left right }
-{
-    left < right
+    Ok(floor_rest(left, right))
 }
 
 // The order of two integers.
-pub fn compare(left: i32, right: i32) -> Order
+pub fn compare(left: i32, right: i32) -> Ordering
     ensures { result ≡ order_ℤ left right }
 {
-    if left < right {
-        return Order::Lower;
-    }
-    if right < left {
-        return Order::Higher;
-    }
-    Order::Same
+    left.cmp(&right)
 }
 
 // The order of two lengths, kinds or places.
-pub fn compare_numbers(left: usize, right: usize) -> Order
+pub fn compare_numbers(left: usize, right: usize) -> Ordering
     ensures { result ≡ order_ℕ left right }
 {
-    if left < right {
-        return Order::Lower;
-    }
-    if right < left {
-        return Order::Higher;
-    }
-    Order::Same
+    left.cmp(&right)
 }

@@ -8,18 +8,18 @@ use Rattle.prelude.proofs.Truth.{cond-true, cond-false}
 use Rattle.integers.specs.Bytes.{word}
 use Rattle.values.specs.Value.{map, Value, Items, Paired}
 use Rattle.values.specs.Place.{ItemsAt, Holds}
-use Rattle.values.specs.Contract.{Equal}
+use Rattle.values.specs.Contract.{AreEqual}
 use Rattle.values.proofs.Records.{holds, items_to, items_none, collection_shaped}
-use Rattle.collections.specs.declared.finding.Found.{Found}
-use Rattle.collections.specs.declared.finding.Found.TheVariants.{At as Place, Nothing}
+use Rattle.collections.specs.Finding.{Found}
+use Rattle.std.specs.Prelude.{Err, Some, None}
+use Rattle.prelude.specs.declared.Refusal.TheVariants.{Clash}
 use Rattle.collections.specs.Finding.{AtKey}
 use Rattle.collections.proofs.Shown.{found_at, found_nothing}
 use Rattle.operators.specs.Answer.{Answer, refused, clash, sized}
 use Rattle.operators.specs.Gather.{every_entry, enter_all}
 use Rattle.operators.specs.Maps.{agrees_with, compatible}
 use Rattle.calling.specs.Scratch.{second}
-use Rattle.calling.specs.declared.Applied.{Applied}
-use Rattle.calling.specs.declared.Applied.TheVariants.{Refused}
+use Rattle.calling.specs.Applied.{Applied}
 use Rattle.calling.specs.Applied.{Applies}
 use Rattle.calling.specs.Operands.{HasTwo, OnBoth}
 use Rattle.calling.proofs.Kinding.{same_items, both_by, both_off}
@@ -28,14 +28,14 @@ use Rattle.map_operators.proofs.Pairs.{NextEntry, next_entry}
 
 -- ---- one entry
 
-module _ {s : List ℕ} {at x y p : ℕ} {f : Found} (k : AtKey s at x f) (e : f ≡ Place p) where
+module _ {s : List ℕ} {at x y p : ℕ} {f : Found} (k : AtKey s at x f) (e : f ≡ Some p) where
   pub found_holds : Beside map s at x y → Holds s p
   found_holds h = holds (found_at (k h.held.items h.key.value h.held.here h.key.here) e).here
 
-  pub found_agrees : {r : Bool} → Equal s y p r → Agrees s at x y r
+  pub found_agrees : {r : Bool} → AreEqual s y p r → Agrees s at x y r
   found_agrees q vs l v a b c = let z = found_at (k vs l a b) e in q v z.value c z.here ∙ sym (ap (λ (o : Option Value). agrees_with o v) z.is)
 
-pub nothing_agrees : {s : List ℕ} {at x y : ℕ} {f : Found} → AtKey s at x f → f ≡ Nothing → Agrees s at x y true
+pub nothing_agrees : {s : List ℕ} {at x y : ℕ} {f : Found} → AtKey s at x f → f ≡ None → Agrees s at x y true
 nothing_agrees k e vs l v a b c = sym (ap (λ (o : Option Value). agrees_with o v) (found_nothing (k vs l a b) e))
 
 -- ---- all entries
@@ -113,5 +113,5 @@ module _ {s : List ℕ} {base : ℕ} {r : Bool} (h : HasTwo map map s base) (c :
       both_by {f = merged_maps} o.kept a b
       (subst (λ (x : Answer). Applies t base q x) (sym (cond-true (compatible vs ws) (entered_all vs ws) (refused clash) (sym (c vs ws a b) ∙ e))) (o.right vs ws a b))
 
-  pub merge_clash : r ≡ false → OnBoth map map merged_maps s s base (Refused clash)
+  pub merge_clash : r ≡ false → OnBoth map map merged_maps s s base (Err Clash)
   merge_clash e = both_off (λ vs ws a b. cond-false (compatible vs ws) (entered_all vs ws) (refused clash) (sym (c vs ws a b) ∙ e))

@@ -2,7 +2,6 @@
 use mathlib.Core.Path.{◌≡◌, refl, sym, ap, subst, ◌∙◌}
 use mathlib.Core.Bool.{Bool, true, false, not}
 use mathlib.Core.List.{List}
-use mathlib.Core.Logic.{inr}
 use Prim.Native.Nat.{ℕ, ◌+◌, ◌-◌, ◌≤◌, ◌<◌}
 use native.Mathlib.Omega.{arith}
 use Rattle.prelude.proofs.Absurd.{never}
@@ -17,8 +16,8 @@ use Rattle.collections.specs.Finding.{HoldsCollection}
 use Rattle.collections.specs.Building.{Retags}
 use Rattle.operators.specs.Answer.{Answer, is}
 use Rattle.operators.specs.Gather.{insert_all}
-use Rattle.calling.specs.declared.Applied.{Applied}
-use Rattle.calling.specs.declared.Applied.TheVariants.{Done}
+use Rattle.calling.specs.Applied.{Applied}
+use Rattle.std.specs.Prelude.{Ok}
 use Rattle.calling.proofs.Answering.{is_done}
 use Rattle.calling.proofs.Framing.{kept_then, kept_outside}
 use Rattle.calling.specs.Operands.{Has, OnItems}
@@ -60,7 +59,7 @@ module _ {b wanted : Bool} {s t : List ℕ} {base end p q : ℕ} (w : Packing ma
 
     module _ {n : ℕ} (e : n ≡ word t p) where
       pub halving_movable : Movable t p q n
-      halving_movable = let y = halving_run in let x = w.behind in let z = w.rest_at.fits in record { there = omega arith; room = omega arith; apart = inr x }
+      halving_movable = let y = halving_run in let x = w.behind in let z = w.rest_at.fits in record { there = omega arith; room = omega arith }
 
       after : ItemsAt t (p + n) end halving_run.rest
       after = let y = halving_run in subst (λ (i : ℕ). ItemsAt t (p + i) end y.rest) (sym e) y.rest_at
@@ -76,7 +75,7 @@ module _ {b wanted : Bool} {s t : List ℕ} {base end p q : ℕ} (w : Packing ma
           let y = halving_run in
           pack_past w (omega arith) after (half_past b wanted w.all w.done y.first y.rest so (subst (Half b wanted w.all w.done) y.is w.so))
 
-  pub halving_end : {u : List ℕ} → end ≤ p → PutHead t u base (q - base) (number sequence) → OnItems map (halved b) s u base Done
+  pub halving_end : {u : List ℕ} → end ≤ p → PutHead t u base (q - base) (number sequence) → OnItems map (halved b) s u base (Ok tt)
   halving_end le h =
       let d = w.done_at.ends in
       pack_end w {f = halved b} le (omega arith) h
@@ -87,14 +86,14 @@ module _ {b wanted : Bool} {s t : List ℕ} {base end p q : ℕ} (w : Packing ma
 abbrev pub dom_answer : Items → Answer
 dom_answer vs = is (collection set (keys vs))
 
-module _ {s t : List ℕ} {base : ℕ} (h : Has map s base) (o : OnItems map (halved true) s t base Done) where
+module _ {s t : List ℕ} {base : ℕ} (h : Has map s base) (o : OnItems map (halved true) s t base (Ok tt)) where
   keys_at : At t base (collection sequence (keys h.held.items))
   keys_at = value_of (o.right h.held.items h.held.here)
 
   pub keys_held : HoldsCollection t base
   keys_held = record { kind = sequence; items = keys h.held.items; here = keys_at }
 
-  pub domain_done : {u : List ℕ} → Retags t u base 3 → OnItems map dom_answer s u base Done
+  pub domain_done : {u : List ℕ} → Retags t u base 3 → OnItems map dom_answer s u base (Ok tt)
   domain_done x =
       let a = h.held.here in
       items_by {f = dom_answer} (kept_then o.kept (kept_outside (omega arith) x.frame)) a
@@ -105,7 +104,7 @@ module _ {s t : List ℕ} {base : ℕ} (h : Has map s base) (o : OnItems map (ha
 abbrev pub rng_answer : Items → Answer
 rng_answer vs = is (collection set (insert_all none (mapped vs)))
 
-module _ {s t : List ℕ} {base : ℕ} (h : Has map s base) (o : OnItems map (halved false) s t base Done) where
+module _ {s t : List ℕ} {base : ℕ} (h : Has map s base) (o : OnItems map (halved false) s t base (Ok tt)) where
   values_at : At t base (collection sequence (mapped h.held.items))
   values_at = value_of (o.right h.held.items h.held.here)
 

@@ -8,9 +8,9 @@ use borrow.Author.Tests.{eqb-true, eqb-false}
 use Rattle.prelude.proofs.Truth.{by_test}
 use Rattle.values.specs.Value.{map}
 use Rattle.values.specs.Contract.{KindAt}
-use Rattle.operators.specs.Answer.{wrong_kind}
 use Rattle.operators.specs.Operators.{unary}
-use Rattle.calling.specs.declared.Applied.TheVariants.{Refused}
+use Rattle.std.specs.Prelude.{Err}
+use Rattle.prelude.specs.declared.Refusal.TheVariants.{WrongKind}
 use Rattle.calling.specs.Applied.{OnOne}
 use Rattle.calling.proofs.Kinding.{off_one}
 use Rattle.calling.proofs.Numbered.{past_next, meet}
@@ -19,7 +19,7 @@ use Rattle.map_operators.proofs.Halving.{dom_answer, rng_answer}
 pub not_fourteen : {n : ℕ} → n ≤ 15 → 14 ≤ n → (n ≡ 14 → ⊥) → n ≡ 15
 not_fourteen high low f = omega (arith, f)
 
-pub not_map : {s : List ℕ} {base kind n : ℕ} → 14 ≤ n → n ≤ 15 → KindAt s base kind → (kind ≡ 5 → ⊥) → OnOne (unary n) s s base (Refused wrong_kind)
+pub not_map : {s : List ℕ} {base kind n : ℕ} → 14 ≤ n → n ≤ 15 → KindAt s base kind → (kind ≡ 5 → ⊥) → OnOne (unary n) s s base (Err WrongKind)
 unfolding unary
 not_map {n = n} low high r f =
     by_test (eqb n 14)

@@ -8,7 +8,7 @@ use Prim.Native.Nat.{ℕ, ◌+◌, ◌≤◌, ◌<◌}
 use native.Mathlib.Omega.{arith}
 use borrow.Author.Tests.{leb-false}
 use lib.Dec.{leb}
-use Rattle.prelude.proofs.Absurd.{impossible}
+use Rattle.prelude.proofs.Absurd.{impossible, never}
 use Rattle.integers.specs.Bytes.{word}
 use Rattle.values.specs.Value.{map, Value, collection, Items, more, every_other, keys, size, sizes, Ascending, Paired, value_limit}
 use Rattle.values.specs.Items.{same, lookup, enter}
@@ -18,15 +18,19 @@ use Rattle.values.proofs.Order.{same_true}
 use Rattle.values.proofs.Encoding.{collection_size}
 use Rattle.values.proofs.Records.{holds, items_to, items_none, collection_shaped}
 use Rattle.values.proofs.Frame.{outside_none, outside_both, items_below}
-use Rattle.collections.specs.declared.building.Entered.{Entered}
-use Rattle.collections.specs.declared.building.Entered.TheVariants.{Done as Put, Clash, Full}
+use Rattle.collections.specs.Building.{Added}
+use Rattle.std.specs.Prelude.{Ok, Err}
+use Rattle.std.specs.Result.{result_eq}
+use Rattle.std.specs.contracts.prelude.UnitPartialEq.TheImpl as unit
+use Rattle.prelude.specs.contracts.RefusalPartialEq.TheImpl as equal
+use Rattle.prelude.specs.declared.Refusal.{Refusal}
+use Rattle.prelude.specs.declared.Refusal.TheVariants.{WrongKind, OutOfRange, ByZero, NoMatch, NoBinding, NotUnique, NotThere, Clash, TooLarge, TooLargeToSplit, TooManyBindings, TooManyChoices, ListTooShort, EntryTooHigh, EntriesLeft}
 use Rattle.values.proofs.Entries.{enter_present, paired_enter, ascending_enter}
 use Rattle.collections.specs.Building.{entry_answer, EntryRoom, Maps, Enters}
-use Rattle.operators.specs.Answer.{closed, sized, too_large}
+use Rattle.operators.specs.Answer.{closed, sized}
 use Rattle.operators.specs.Gather.{enter_all}
 use Rattle.operator_laws.proofs.Enumerations.{fitting_built, fits_not}
 use Rattle.calling.specs.Scratch.{second}
-use Rattle.calling.specs.declared.Applied.TheVariants.{Done, Refused}
 use Rattle.calling.proofs.Answering.{is_done, is_off}
 use Rattle.calling.proofs.Framing.{kept_then, kept_outside, copyable_down, copied_kept}
 use Rattle.calling.specs.Operands.{HasTwo, OnBoth}
@@ -66,33 +70,52 @@ over_start {s} {base} {n} e h =
 
 -- ---- what an answer says
 
-full_over : {n : ℕ} (b : Bool) → b ≡ leb n value_limit → Full ≡ cond b Put Full → value_limit < n
+full_over : {n : ℕ} (b : Bool) → b ≡ leb n value_limit → ◌≡◌ {A = Added} (Err TooLarge) (cond b (Ok tt) (Err TooLarge)) → value_limit < n
 full_over true e d = impossible cc
 full_over {n} false e d = leb-false n value_limit (sym e)
 
-not_full : {r : Entered} (b : Bool) → r ≡ cond b Put Full → (r ≡ Full → ⊥) → r ≡ Put
+not_full : {r : Added} (b : Bool) → r ≡ cond b (Ok tt) (Err TooLarge) → (r ≡ Err TooLarge → ⊥) → r ≡ Ok tt
 not_full true e f = e
 not_full false e f = absurd (f e)
 
-there_full : {X : Type 0} (b : Bool) → Full ≡ cond b Put Clash → X
+there_full : {X : Type 0} (b : Bool) → ◌≡◌ {A = Added} (Err TooLarge) (cond b (Ok tt) (Err Clash)) → X
 there_full true e = impossible cc
 there_full false e = impossible cc
 
-pub put_not_full : {r : Entered} → r ≡ Put → r ≡ Full → ⊥
-put_not_full e f = impossible cc
+-- the code's test of an answer
+is_large : (e : Refusal) → (equal.eq-value).it e TooLarge ≡ true → e ≡ TooLarge
+is_large WrongKind e = never e
+is_large OutOfRange e = never e
+is_large ByZero e = never e
+is_large NoMatch e = never e
+is_large NoBinding e = never e
+is_large NotUnique e = never e
+is_large NotThere e = never e
+is_large Clash e = never e
+is_large TooLarge e = refl
+is_large TooLargeToSplit e = never e
+is_large TooManyBindings e = never e
+is_large TooManyChoices e = never e
+is_large ListTooShort e = never e
+is_large EntryTooHigh e = never e
+is_large EntriesLeft e = never e
 
-pub clash_not_full : {r : Entered} → r ≡ Clash → r ≡ Full → ⊥
-clash_not_full e f = impossible cc
+pub told_full : (r : Added) → result_eq (unit.eq-value).it (equal.eq-value).it r (Err TooLarge) ≡ true → r ≡ Err TooLarge
+told_full (Ok u) e = never e
+told_full (Err why) e = ap Err (is_large why e)
+
+pub told_not_full : (r : Added) → result_eq (unit.eq-value).it (equal.eq-value).it r (Err TooLarge) ≡ false → r ≡ Err TooLarge → ⊥
+told_not_full r e d = never (sym e ∙ ap (λ (q : Added). result_eq (unit.eq-value).it (equal.eq-value).it q (Err TooLarge)) d)
 
 -- a key that is there: nothing changes
-there-same : {s t : List ℕ} {at x y : ℕ} {vs : Items} {k v w : Value} {r : Entered} → Paired vs → Ascending (keys vs) → Enters s t at x y r → Maps s t at vs k v r → lookup k vs ≡ some w → t ≡ s
+there-same : {s t : List ℕ} {at x y : ℕ} {vs : Items} {k v w : Value} {r : Added} → Paired vs → Ascending (keys vs) → Enters s t at x y r → Maps s t at vs k v r → lookup k vs ≡ some w → t ≡ s
 there-same {s} {t} {at} {x} {y} {vs} {k} {v} {w} {r} p a e m l = go (same w v) refl
   where
     go : (b : Bool) → same w v ≡ b → t ≡ s
     go true q = m.still (enter_present k v vs p a (l ∙ ap some (same_true w v q)))
     go false q =
-        e.clash
-        (m.answers ∙ ap (λ (o : Option Value). entry_answer o v (size (collection map (enter k v vs)))) l ∙ ap (λ (b : Bool). cond b Put Clash) q)
+        e.refused Clash
+        (m.answers ∙ ap (λ (o : Option Value). entry_answer o v (size (collection map (enter k v vs)))) l ∙ ap (λ (b : Bool). cond b (Ok tt) (Err Clash)) q)
 
 module _ {s t : List ℕ} {base end p m l : ℕ} (w : Overriding s t base end p) (lt : p < end) (e : m ≡ word t p) (d : l ≡ word t (p + m)) where
   pub over_next : NextEntry t p m l end w.rest
@@ -109,7 +132,7 @@ module _ {s t : List ℕ} {base end p m l : ℕ} (w : Overriding s t base end p)
         value = record { held = record { items = w.made; here = w.made_at }; room = omega arith; item = holds y.value_at; apart = inl (omega arith) };
       }
 
-module _ {s t u : List ℕ} {base end p m l : ℕ} {r : Entered} (w : Overriding s t base end p) (y : NextEntry t p m l end w.rest) (x : Enters t u (base + second) p (p + m) r) where
+module _ {s t u : List ℕ} {base end p m l : ℕ} {r : Added} (w : Overriding s t base end p) (y : NextEntry t p m l end w.rest) (x : Enters t u (base + second) p (p + m) r) where
   answer : Maps t u (base + second) w.made y.key y.value r
   answer = x.right w.made y.key y.value w.made_at y.key_at y.value_at
 
@@ -132,7 +155,7 @@ module _ {s t u : List ℕ} {base end p m l : ℕ} {r : Entered} (w : Overriding
       w.so ∙ ap (λ (vs : Items). enter_all vs w.made) y.is ∙ entered_there y.key y.value y.rest w.made y.paired h.0 rising h.1 n
 
   -- 28: what is made already is over 512 bytes, and so is the whole
-  too_long : r ≡ Full → (o : Option Value) → lookup y.key w.made ≡ o → value_limit < 4 + sizes (enter_all w.maps.left.items w.maps.right.items)
+  too_long : r ≡ Err TooLarge → (o : Option Value) → lookup y.key w.made ≡ o → value_limit < 4 + sizes (enter_all w.maps.left.items w.maps.right.items)
   too_long f absent n =
       let made = enter y.key y.value w.made in
       let h = collection_shaped w.made_at.fine in
@@ -144,7 +167,7 @@ module _ {s t u : List ℕ} {base end p m l : ℕ} {r : Entered} (w : Overriding
       there_full (same z y.value)
       (sym f ∙ answer.answers ∙ ap (λ (o : Option Value). entry_answer o y.value (size (collection map (enter y.key y.value w.made)))) n)
 
-  pub over_full : r ≡ Full → OnBoth map map entered_all s u base (Refused too_large)
+  pub over_full : r ≡ Err TooLarge → OnBoth map map entered_all s u base (Err TooLarge)
   over_full f =
       let vs = w.maps.left.items in
       let ws = w.maps.right.items in
@@ -168,7 +191,7 @@ module _ {s t u : List ℕ} {base end p m l : ℕ} {r : Entered} (w : Overriding
         frame = outside_both w.frame x.frame;
       }
 
-  step : (r ≡ Full → ⊥) → (o : Option Value) → lookup y.key w.made ≡ o → Overriding s u base end (p + m + l)
+  step : (r ≡ Err TooLarge → ⊥) → (o : Option Value) → lookup y.key w.made ≡ o → Overriding s u base end (p + m + l)
   step f absent n =
       let made = enter y.key y.value w.made in
       onward made (whole_new n)
@@ -178,14 +201,14 @@ module _ {s t u : List ℕ} {base end p m l : ℕ} {r : Entered} (w : Overriding
       let h = collection_shaped w.made_at.fine in
       onward w.made (whole_there n) (subst (λ (b : List ℕ). At b (base + second) (collection map w.made)) (sym (there-same h.0 h.1 x answer n)) w.made_at)
 
-  pub over-step : (r ≡ Full → ⊥) → Overriding s u base end (p + m + l)
+  pub over-step : (r ≡ Err TooLarge → ⊥) → Overriding s u base end (p + m + l)
   over-step f = step f (lookup y.key w.made) refl
 
 module _ {s t : List ℕ} {base end p : ℕ} (w : Overriding s t base end p) where
   pub over_copyable : Copyable t (base + second) base
   over_copyable = copyable_down (omega arith) (holds w.made_at)
 
-  pub over_end : {u : List ℕ} {r : ℕ} → end ≤ p → Copied t u (base + second) base r → OnBoth map map entered_all s u base Done
+  pub over_end : {u : List ℕ} {r : ℕ} → end ≤ p → Copied t u (base + second) base r → OnBoth map map entered_all s u base (Ok tt)
   over_end {u} le c =
       let vs = w.maps.left.items in
       let ws = w.maps.right.items in

@@ -10,7 +10,7 @@ use Rattle.values.specs.Place.{At, ItemsAt}
 use Rattle.values.proofs.Records.{uncons}
 use Rattle.values.proofs.Encoding.{size_low}
 use Rattle.operators.specs.Answer.{is}
-use Rattle.calling.specs.declared.Applied.{Applied}
+use Rattle.calling.specs.Applied.{Applied}
 use Rattle.calling.specs.Applied.{Applies, done}
 
 -- the value that an operator left

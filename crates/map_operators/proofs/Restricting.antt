@@ -22,7 +22,7 @@ use Rattle.operators.specs.Answer.{Answer, is}
 use Rattle.operators.specs.Gather.{keep_entries}
 use Rattle.operator_laws.proofs.Entries.{keep_true, keep_false, paired_keep, ascending_keys}
 use Rattle.calling.specs.Scratch.{second}
-use Rattle.calling.specs.declared.Applied.TheVariants.{Done}
+use Rattle.std.specs.Prelude.{Ok}
 use Rattle.calling.proofs.Answering.{is_done}
 use Rattle.calling.proofs.Framing.{kept_then, kept_less, copyable_down, copied_kept}
 use Rattle.calling.specs.Operands.{HasTwo, OnItems, OnBoth}
@@ -87,7 +87,7 @@ module _ {by : Bool} {s t : List ℕ} {at of end p q : ℕ} (w : Restricting by 
     restrict_beside = let y = restrict_next in record { held = record { items = w.members.items; here = members_at }; key = holds y.key_at; value = holds y.value_at }
 
     pub restrict_movable : Movable t p q (p + m + l - p)
-    restrict_movable = let y = restrict_next in let x = w.pack.rest_at.fits in record { there = omega arith; room = omega arith; apart = inr w.pack.behind }
+    restrict_movable = let y = restrict_next in let x = w.pack.rest_at.fits in record { there = omega arith; room = omega arith }
 
     entry_at : ItemsAt t p (p + (p + m + l - p)) (more restrict_next.key (more restrict_next.value none))
     entry_at =
@@ -135,7 +135,7 @@ module _ {by : Bool} {s t : List ℕ} {at of end p q : ℕ} (w : Restricting by 
       let ms = w.members.items in
       let d = w.pack.done_at.ends in
       let kept : Items → Answer = λ vs. is (collection map (keep_entries (passes by ms) vs)) in
-      let o : OnItems map kept s u at Done =
+      let o : OnItems map kept s u at (Ok tt) =
       pack_end w.pack {f = kept} le (omega arith) h
       (λ vs ws a l f.
       let x = collection_shaped a.fine in
@@ -163,7 +163,7 @@ module _ {s : List ℕ} {base : ℕ} (h : HasTwo set map s base) where
     pub domain_copyable : Copyable t (base + second) base
     domain_copyable = copyable_down (omega arith) (holds (o.right h.right.items h.left.items h.right.here h.left.here))
 
-    pub domain_restricted : {u : List ℕ} {r : ℕ} → Copied t u (base + second) base r → OnBoth set map on_domain s u base Done
+    pub domain_restricted : {u : List ℕ} {r : ℕ} → Copied t u (base + second) base r → OnBoth set map on_domain s u base (Ok tt)
     domain_restricted c =
         both_by {f = on_domain} (kept_then (kept_less (omega arith) o.kept) (copied_kept c)) h.left.here h.right.here
         (is_done refl (c.here _ (o.right h.right.items h.left.items h.right.here h.left.here)))
@@ -172,7 +172,7 @@ module _ {s : List ℕ} {base : ℕ} (h : HasTwo map set s base) where
   pub range_restrictable : Restrictable s base (base + second)
   range_restrictable = record { held = h.left; members = h.right; apart = inr (omega arith) }
 
-  pub range_restricted : {t : List ℕ} → Restricts false s t base (base + second) → OnBoth map set on_range s t base Done
+  pub range_restricted : {t : List ℕ} → Restricts false s t base (base + second) → OnBoth map set on_range s t base (Ok tt)
   range_restricted o =
       both_by {f = on_range} o.kept h.left.here h.right.here
       (is_done refl (o.right h.left.items h.right.items h.left.here h.right.here))

@@ -1,19 +1,16 @@
 // The operators on maps, on values in scratch.
 #![tactic(auto)]
 
-ghost use Rattle.std.specs.Prelude.{◌≤◌};
+ghost use Rattle.std.specs.Prelude.{◌≤◌, Ok};
 ghost use Rattle.values.specs.Value.{set, sequence, map, collection, none, every_other, keys, mapped};
 ghost use Rattle.operators.specs.Answer.{is, sized};
 ghost use Rattle.operators.specs.Gather.{insert_all, enter_all};
 ghost use Rattle.operators.specs.Operators.{unary, binary};
-ghost use Rattle.calling.specs.declared.Applied.TheVariants.{Done};
 ghost use Rattle.calling.specs.Applied.{One, Two, OnOne, OnTwo};
 ghost use Rattle.calling.specs.Operands.{Has, HasTwo, OnItems, OnBoth};
 ghost use Rattle.map_operators.specs.Contract.{Beside, Agrees, Passes, Compatible, Restrictable, Restricts};
 
-use calling::Applied;
-use collections::building::Entered;
-use collections::finding::Found;
+use prelude::Refusal;
 use values::Value;
 
 // ---- one map
@@ -21,7 +18,7 @@ use values::Value;
 // The keys of a map, or the values that they are mapped to, move together and are a sequence.
 fn every_other(s: &mut [u8], base: usize, keys: bool)
     requires { Has map s.old base }
-    ensures { OnItems map (λ vs. is (collection sequence (every_other keys vs))) s.old s.new base Done }
+    ensures { OnItems map (λ vs. is (collection sequence (every_other keys vs))) s.old s.new base (Ok tt) }
 {
     let end = base + values::length_of(s, base);
     let mut p = base + Value::HEAD;
@@ -41,17 +38,17 @@ fn every_other(s: &mut [u8], base: usize, keys: bool)
 }
 
 // 14 dom: the keys ascend, so they are a set as they stand.
-fn domain(s: &mut [u8], base: usize) -> Applied
+fn domain(s: &mut [u8], base: usize) -> Result<(), Refusal>
     requires { Has map s.old base }
     ensures { OnItems map (λ vs. is (collection set (keys vs))) s.old s.new base result }
 {
     every_other(s, base, true);
     collections::building::retag(s, base, Value::SET);
-    Applied::Done
+    Ok(())
 }
 
 // 15 rng: the elements of the sequence of values.
-fn range(s: &mut [u8], base: usize) -> Applied
+fn range(s: &mut [u8], base: usize) -> Result<(), Refusal>
     requires { Has map s.old base }
     ensures { OnItems map (λ vs. is (collection set (insert_all none (mapped vs)))) s.old s.new base result }
 {
@@ -60,13 +57,13 @@ fn range(s: &mut [u8], base: usize) -> Applied
 }
 
 // The unary operators 14 and 15.
-pub fn unary_map(s: &mut [u8], base: usize, operator: usize) -> Applied
+pub fn unary_map(s: &mut [u8], base: usize, operator: usize) -> Result<(), Refusal>
     requires { One s.old base × (14 ≤ operator) × (operator ≤ 15) }
     ensures { OnOne (unary operator) s.old s.new base result }
 {
     let kind = values::kind_of(s, base);
     if kind != Value::MAP {
-        return Applied::Refused(Applied::WRONG_KIND);
+        return Err(Refusal::WrongKind);
     }
     if operator == tables::unary::DOM {
         return domain(s, base);
@@ -81,10 +78,9 @@ fn agrees(s: &[u8], at: usize, k: usize, v: usize) -> bool
     requires { Beside map s.now at k v }
     ensures { Agrees s.now at k v result }
 {
-    let found = collections::finding::find_key(s, at, k);
-    match found {
-        Found::At(w) => values::equal(s, v, w),
-        Found::Nothing => true,
+    match collections::finding::find_key(s, at, k) {
+        Some(w) => values::equal(s, v, w),
+        None => true,
     }
 }
 
@@ -93,22 +89,21 @@ fn compatible(s: &[u8], base: usize) -> bool
     requires { HasTwo map map s.now base }
     ensures { Compatible s.now base result }
 {
-    let end = base + Applied::SECOND + values::length_of(s, base + Applied::SECOND);
-    let mut p = base + Applied::SECOND + Value::HEAD;
+    let end = base + calling::SECOND + values::length_of(s, base + calling::SECOND);
+    let mut p = base + calling::SECOND + Value::HEAD;
     while p < end {
         let v = p + values::length_of(s, p);
-        if agrees(s, base, p, v) {
-            p = v + values::length_of(s, v);
-        } else {
+        if !agrees(s, base, p, v) {
             return false;
         }
+        p = v + values::length_of(s, v);
     }
     true
 }
 
 // The entries of the first map go into the second, where what stands there wins. What is built is always a part of the whole, so 28 is
 // given exactly where the whole is over 512 bytes.
-fn enter_all(s: &mut [u8], base: usize) -> Applied
+fn enter_all(s: &mut [u8], base: usize) -> Result<(), Refusal>
     requires { HasTwo map map s.old base }
     ensures { OnBoth map map (λ vs ws. sized map (enter_all vs ws)) s.old s.new base result }
 {
@@ -117,21 +112,18 @@ fn enter_all(s: &mut [u8], base: usize) -> Applied
     while p < end {
         let v = p + values::length_of(s, p);
         let next = v + values::length_of(s, v);
-        match collections::building::enter(s, base + Applied::SECOND, p, v) {
-            Entered::Done => {}
-            Entered::Clash => {}
-            Entered::Full => {
-                return Applied::Refused(Applied::TOO_LARGE);
-            }
+        let entered = collections::building::enter(s, base + calling::SECOND, p, v);
+        if entered == Err(Refusal::TooLarge) {
+            return entered;
         }
         p = next;
     }
-    values::copy_value(s, base + Applied::SECOND, base);
-    Applied::Done
+    values::copy_value(s, base + calling::SECOND, base);
+    Ok(())
 }
 
 // 25 munion
-fn merge(s: &mut [u8], base: usize) -> Applied
+fn merge(s: &mut [u8], base: usize) -> Result<(), Refusal>
     requires { Two s.old base }
     ensures { OnTwo (binary 25) s.old s.new base result }
 {
@@ -139,20 +131,20 @@ fn merge(s: &mut [u8], base: usize) -> Applied
         if compatible(s, base) {
             return enter_all(s, base);
         }
-        return Applied::Refused(Applied::CLASH);
+        return Err(Refusal::Clash);
     }
-    Applied::Refused(Applied::WRONG_KIND)
+    Err(Refusal::WrongKind)
 }
 
 // 26 ++
-fn replace(s: &mut [u8], base: usize) -> Applied
+fn replace(s: &mut [u8], base: usize) -> Result<(), Refusal>
     requires { Two s.old base }
     ensures { OnTwo (binary 26) s.old s.new base result }
 {
     if calling::kinds_are(s, base, Value::MAP, Value::MAP) {
         return enter_all(s, base);
     }
-    Applied::Refused(Applied::WRONG_KIND)
+    Err(Refusal::WrongKind)
 }
 
 // ---- a map and a set
@@ -189,32 +181,32 @@ fn restrict(s: &mut [u8], at: usize, of: usize, keys: bool)
 }
 
 // 27 <:
-fn restrict_domain(s: &mut [u8], base: usize) -> Applied
+fn restrict_domain(s: &mut [u8], base: usize) -> Result<(), Refusal>
     requires { Two s.old base }
     ensures { OnTwo (binary 27) s.old s.new base result }
 {
     if calling::kinds_are(s, base, Value::SET, Value::MAP) {
-        restrict(s, base + Applied::SECOND, base, true);
-        values::copy_value(s, base + Applied::SECOND, base);
-        return Applied::Done;
+        restrict(s, base + calling::SECOND, base, true);
+        values::copy_value(s, base + calling::SECOND, base);
+        return Ok(());
     }
-    Applied::Refused(Applied::WRONG_KIND)
+    Err(Refusal::WrongKind)
 }
 
 // 28 :>
-fn restrict_range(s: &mut [u8], base: usize) -> Applied
+fn restrict_range(s: &mut [u8], base: usize) -> Result<(), Refusal>
     requires { Two s.old base }
     ensures { OnTwo (binary 28) s.old s.new base result }
 {
     if calling::kinds_are(s, base, Value::MAP, Value::SET) {
-        restrict(s, base, base + Applied::SECOND, false);
-        return Applied::Done;
+        restrict(s, base, base + calling::SECOND, false);
+        return Ok(());
     }
-    Applied::Refused(Applied::WRONG_KIND)
+    Err(Refusal::WrongKind)
 }
 
 // The binary operators 25 to 28.
-pub fn binary_map(s: &mut [u8], base: usize, operator: usize) -> Applied
+pub fn binary_map(s: &mut [u8], base: usize, operator: usize) -> Result<(), Refusal>
     requires { Two s.old base × (25 ≤ operator) × (operator ≤ 28) }
     ensures { OnTwo (binary operator) s.old s.new base result }
 {

@@ -5,10 +5,10 @@ ghost use Rattle.operators.specs.Operators.{unary, binary};
 ghost use Rattle.calling.specs.Applied.{One, Two, OnOne, OnTwo};
 ghost use Rattle.operations.specs.Numbers.{Unary, Binary};
 
-use calling::Applied;
+use prelude::Refusal;
 
 // The unary operators, 1 to 15, on the value at base.
-pub fn unary(s: &mut [u8], base: usize, operator: usize) -> Applied
+pub fn unary(s: &mut [u8], base: usize, operator: usize) -> Result<(), Refusal>
     requires { One s.old base × Unary operator }
     ensures { OnOne (unary operator) s.old s.new base result }
 {
@@ -24,8 +24,8 @@ pub fn unary(s: &mut [u8], base: usize, operator: usize) -> Applied
     map_operators::unary_map(s, base, operator)
 }
 
-// The strict binary operators, 4 to 28, on the values at base and `Applied::SECOND` above it.
-pub fn binary(s: &mut [u8], base: usize, operator: usize) -> Applied
+// The strict binary operators, 4 to 28, on the values at base and `calling::SECOND` above it.
+pub fn binary(s: &mut [u8], base: usize, operator: usize) -> Result<(), Refusal>
     requires { Two s.old base × Binary operator }
     ensures { OnTwo (binary operator) s.old s.new base result }
 {

@@ -12,7 +12,7 @@ use Rattle.prelude.proofs.Absurd.{never}
 use Rattle.prelude.proofs.Truth.{both_ways, by_test}
 use Rattle.integers.specs.Whole.{least_integer, greatest_integer, InRange}
 use Rattle.integers.proofs.Parts.{up, down, parts_add, parts_minus, eq_parts}
-use Rattle.integers.specs.declared.Order.TheVariants.{Lower}
+use Rattle.std.specs.declared.cmp.Ordering.TheVariants.{Less}
 use Rattle.values.specs.Value.{set, integer, collection, size, sizes, value_limit, within, order, Before, Ascending, Sound, SoundItems}
 use Rattle.integers.specs.Order.{order_ℕ, order_ℤ}
 use Rattle.values.specs.Items.{is_member}
@@ -103,7 +103,7 @@ member_range from to i =
 
 -- ---- order, range and size
 
-lower_integer : (a b : ℤ) → up a + down b < up b + down a → order (integer a) (integer b) ≡ Lower
+lower_integer : (a b : ℤ) → up a + down b < up b + down a → order (integer a) (integer b) ≡ Less
 unfolding within order_ℕ order_ℤ
 lower_integer a b h = rw (up_lt a b h)
 

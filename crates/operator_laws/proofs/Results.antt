@@ -11,9 +11,8 @@ use lib.IntN.{ℤ, pos, negsuc, neg_ℤ, nat_abs, ◌+ℤ◌, ◌-ℤ◌, ◌*�
 use lib.ListN.{get_or}
 use Rattle.prelude.proofs.Absurd.{impossible}
 use Rattle.prelude.proofs.Truth.{cond-true, cond-false, by_test}
-use Rattle.integers.specs.declared.Number.{Number}
 use Rattle.integers.specs.Whole as Whole
-use Rattle.integers.specs.Whole.{greatest_integer, in_range, InRange, ranged, divided, div_ℤ, rem_ℤ, mod_ℤ}
+use Rattle.integers.specs.Whole.{Number, greatest_integer, in_range, InRange, ranged, divided, div_ℤ, rem_ℤ, mod_ℤ}
 use Rattle.values.specs.Value.{Kind, set, sequence, map, tuple, number, Value, boolean, integer, quote, collection, Items, none, more, count, keys, mapped, size, sizes, value_limit, Ascending, Paired, Shaped, Sound, SoundItems, WellFormed}
 use Rattle.values.specs.Items.{same, join, nth, lookup}
 use Rattle.values.proofs.Order.{number_inj}

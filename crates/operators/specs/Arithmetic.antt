@@ -1,18 +1,17 @@
 -- The operators on integers: source 000, section 3.1.2, pages 9 and 10. Range and divisions are those of `integers`.
-use Rattle.std.specs.Prelude.{Bool, ℤ}
+use Rattle.std.specs.Prelude.{Bool, ℤ, Ok, Err}
 use Rattle.std.specs.Int.Signed.{lt_z, le_z}
-use Rattle.integers.specs.declared.Number.{Number}
-use Rattle.integers.specs.declared.Number.TheVariants.{Is, OutOfRange, ByZero}
+use Rattle.prelude.specs.Refusals.{number_of}
 use Rattle.integers.specs.Whole
+use Rattle.integers.specs.Whole.{Number}
 use Rattle.values.specs.Value.{Value, integer}
 use Rattle.operators.specs.Answer.{Answer, is, refused, as_integer, needs, needs_both}
 use Rattle.operators.specs.Booleans.{truth}
 
 -- An integer, 21 or 22.
 abbrev pub answered : Number → Answer
-answered (Is z) = is (integer z)
-answered OutOfRange = refused (Whole.refusal_of OutOfRange)
-answered ByZero = refused (Whole.refusal_of ByZero)
+answered (Ok z) = is (integer z)
+answered (Err e) = refused (number_of e)
 
 -- An operation on one integer, on two, and a comparison of two.
 abbrev pub on_integer : (ℤ → Number) → Value → Answer

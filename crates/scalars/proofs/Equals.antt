@@ -7,13 +7,13 @@ use lib.IntN.{ℤ}
 use Rattle.values.specs.Value.{Value, boolean, integer}
 use Rattle.values.specs.Items.{same}
 use Rattle.values.specs.Place.{At}
-use Rattle.values.specs.Contract.{Equal}
+use Rattle.values.specs.Contract.{AreEqual}
 use Rattle.operators.specs.Answer.{Answer, FineAnswer}
 use Rattle.operators.specs.Booleans.{truth}
 use Rattle.operators.specs.Operators.{unary, binary}
 use Rattle.operator_laws.proofs.Booleans.{biimplication_table}
 use Rattle.operator_laws.proofs.Results.{unary_fine}
-use Rattle.calling.specs.declared.Applied.{Applied}
+use Rattle.calling.specs.Applied.{Applied}
 use Rattle.calling.specs.Scratch.{second}
 use Rattle.calling.specs.Applied.{Two, Gives, OnTwo}
 use Rattle.calling.proofs.Answering.{gives_same, two_gives}
@@ -23,7 +23,7 @@ fine_one operator {z = z} a e = subst FineAnswer e (unary_fine operator (integer
 
 -- ---- two operands of which r says whether they are equal
 
-pub equal_gives : (n : ℕ) {operator : ℕ} (f : Bool → Bool) {s t : List ℕ} {base : ℕ} {q : Applied} {r : Bool} → ((v w : Value) → binary n v w ≡ truth (f (same v w))) → operator ≡ n → Two s base → Equal s base (base + second) r → Gives (truth (f r)) s t base q → OnTwo (binary operator) s t base q
+pub equal_gives : (n : ℕ) {operator : ℕ} (f : Bool → Bool) {s t : List ℕ} {base : ℕ} {q : Applied} {r : Bool} → ((v w : Value) → binary n v w ≡ truth (f (same v w))) → operator ≡ n → Two s base → AreEqual s base (base + second) r → Gives (truth (f r)) s t base q → OnTwo (binary operator) s t base q
 equal_gives n {operator} f {r = r} h e two eq g =
     let a = two.left in
     let b = two.right in

@@ -11,13 +11,14 @@ use Rattle.values.specs.Value.{Value, boolean}
 use Rattle.values.specs.Place.{At}
 use Rattle.values.specs.Contract.{Put}
 use Rattle.values.proofs.Records.{one_value}
-use Rattle.operators.specs.Answer.{wrong_kind, as_boolean}
+use Rattle.operators.specs.Answer.{as_boolean}
 use Rattle.operators.specs.Booleans.{truth, Connective, and, or, implies, Left, settles, leaves, settled_by, of_left, left}
-use Rattle.calling.specs.declared.Tested.{Tested}
-use Rattle.calling.specs.declared.Tested.TheVariants.{Settled, Open, Refused}
+use Rattle.std.specs.Prelude.{Ok, Err}
+use Rattle.calling.specs.declared.Tested.TheVariants.{Settled, Open}
+use Rattle.prelude.specs.declared.Refusal.TheVariants.{WrongKind}
 use Rattle.calling.specs.Scratch.{Kept}
 use Rattle.calling.proofs.Framing.{kept_same, put_kept}
-use Rattle.scalars.specs.Connectives.{connective, Says, settled, undecided, off, TestsLeft}
+use Rattle.scalars.specs.Connectives.{Test, connective, Says, settled, undecided, off, TestsLeft}
 use Rattle.calling.proofs.Numbered.{end, ◌▹◌, at_each}
 
 -- ---- the truth value that leaves the right to decide, and the answer for the other
@@ -66,21 +67,21 @@ decides operator h g =
 
 -- ---- the three answers of the code
 
-pub no_left : {c : Connective} {s : List ℕ} {base : ℕ} → ((v : Value) → At s base v → as_boolean v ≡ absent) → TestsLeft c s s base (Refused wrong_kind)
+pub no_left : {c : Connective} {s : List ℕ} {base : ℕ} → ((v : Value) → At s base v → as_boolean v ≡ absent) → TestsLeft c s s base (Err WrongKind)
 no_left {c} {s} {base} f =
     record {
       kept = kept_same s base;
-      right = λ v a. subst (λ (o : Option Bool). Says s base (Refused wrong_kind) (of_left c o)) (sym (f v a)) (off refl);
+      right = λ v a. subst (λ (o : Option Bool). Says s base (Err WrongKind) (of_left c o)) (sym (f v a)) (off refl refl);
     }
 
-by_left : {c : Connective} {s t : List ℕ} {base : ℕ} {r : Tested} {b : Bool} → Kept s t base → At s base (boolean b) → Says t base r (settled_by c b) → TestsLeft c s t base r
+by_left : {c : Connective} {s t : List ℕ} {base : ℕ} {r : Test} {b : Bool} → Kept s t base → At s base (boolean b) → Says t base r (settled_by c b) → TestsLeft c s t base r
 by_left {c} {s} {t} {base} {r} k h d = record { kept = k; right = λ v a. subst (λ (x : Value). Says t base r (left c x)) (one_value h a) d }
 
 module _ (operator : ℕ) (low : 1 ≤ operator) (high : operator ≤ 3) {s : List ℕ} {base : ℕ} {b : Bool} (h : At s base (boolean b)) where
-  pub left_waits : beq b (not (eqb operator 2)) ≡ true → TestsLeft (connective operator) s s base Open
+  pub left_waits : beq b (not (eqb operator 2)) ≡ true → TestsLeft (connective operator) s s base (Ok Open)
   left_waits e =
-      by_left (kept_same s base) h (subst (λ (x : Left). Says s base Open x) (sym ((decides operator low high).waits b e)) (undecided refl))
+      by_left (kept_same s base) h (subst (λ (x : Left). Says s base (Ok Open) x) (sym ((decides operator low high).waits b e)) (undecided refl))
 
-  pub left_answers : {t : List ℕ} {n r : ℕ} → beq b (not (eqb operator 2)) ≡ false → Put s t base (boolean (not (eqb operator 1))) n r → TestsLeft (connective operator) s t base Settled
+  pub left_answers : {t : List ℕ} {n r : ℕ} → beq b (not (eqb operator 2)) ≡ false → Put s t base (boolean (not (eqb operator 1))) n r → TestsLeft (connective operator) s t base (Ok Settled)
   left_answers {t} e p =
-      by_left (put_kept p) h (subst (λ (x : Left). Says t base Settled x) (sym ((decides operator low high).answers b e)) (settled refl p.here))
+      by_left (put_kept p) h (subst (λ (x : Left). Says t base (Ok Settled) x) (sym ((decides operator low high).answers b e)) (settled refl p.here))

@@ -8,7 +8,7 @@ use lib.Signed.{lt_z, le_z}
 use mir.Syntax.{w32}
 use mir.Val.{SFits}
 use mir.Facts.{to_z-of_z}
-use Rattle.integers.specs.declared.Number.{Number}
+use Rattle.integers.specs.Whole.{Number}
 use Rattle.integers.specs.Whole as Whole
 use Rattle.values.specs.Value.{Value, integer}
 use Rattle.operators.specs.Answer.{Answer, as_integer, needs, needs_both}

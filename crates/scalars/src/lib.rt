@@ -9,31 +9,31 @@ ghost use Rattle.operators.specs.Operators.{unary, binary};
 ghost use Rattle.calling.specs.Applied.{One, Two, OnOne, OnTwo};
 ghost use Rattle.scalars.specs.Connectives.{connective, TestsLeft};
 
-use calling::{Applied, Pair, Tested};
-use integers::Number;
+use calling::Tested;
+use prelude::Refusal;
 use values::Value;
 
 // ---- one operand: 1 not, 2 minus, 3 abs
 
-fn negation(s: &mut [u8], base: usize) -> Applied
+fn negation(s: &mut [u8], base: usize) -> Result<(), Refusal>
     requires { One s.old base }
     ensures { OnOne (unary 1) s.old s.new base result }
 {
     let kind = values::kind_of(s, base);
     if kind != Value::BOOLEAN {
-        return Applied::Refused(Applied::WRONG_KIND);
+        return Err(Refusal::WrongKind);
     }
     let b = values::boolean_at(s, base);
     calling::put_truth(s, base, !b)
 }
 
-fn sign(s: &mut [u8], base: usize, operator: usize) -> Applied
+fn sign(s: &mut [u8], base: usize, operator: usize) -> Result<(), Refusal>
     requires { One s.old base × (2 ≤ operator) × (operator ≤ 3) }
     ensures { OnOne (unary operator) s.old s.new base result }
 {
     let kind = values::kind_of(s, base);
     if kind != Value::INTEGER {
-        return Applied::Refused(Applied::WRONG_KIND);
+        return Err(Refusal::WrongKind);
     }
     let z = values::integer_at(s, base);
     if operator == tables::unary::MINUS {
@@ -43,7 +43,7 @@ fn sign(s: &mut [u8], base: usize, operator: usize) -> Applied
 }
 
 // The unary operators 1 to 3.
-pub fn unary_scalar(s: &mut [u8], base: usize, operator: usize) -> Applied
+pub fn unary_scalar(s: &mut [u8], base: usize, operator: usize) -> Result<(), Refusal>
     requires { One s.old base × (1 ≤ operator) × (operator ≤ 3) }
     ensures { OnOne (unary operator) s.old s.new base result }
 {
@@ -55,28 +55,28 @@ pub fn unary_scalar(s: &mut [u8], base: usize, operator: usize) -> Applied
 
 // ---- two booleans, and any two values: 4 <=>, 5 =, 6 <>
 
-fn biimplication(s: &mut [u8], base: usize) -> Applied
+fn biimplication(s: &mut [u8], base: usize) -> Result<(), Refusal>
     requires { Two s.old base }
     ensures { OnTwo (binary 4) s.old s.new base result }
 {
     let first = values::kind_of(s, base);
     if first != Value::BOOLEAN {
-        return Applied::Refused(Applied::WRONG_KIND);
+        return Err(Refusal::WrongKind);
     }
-    let second = values::kind_of(s, base + Applied::SECOND);
+    let second = values::kind_of(s, base + calling::SECOND);
     if second != Value::BOOLEAN {
-        return Applied::Refused(Applied::WRONG_KIND);
+        return Err(Refusal::WrongKind);
     }
     let a = values::boolean_at(s, base);
-    let b = values::boolean_at(s, base + Applied::SECOND);
+    let b = values::boolean_at(s, base + calling::SECOND);
     calling::put_truth(s, base, a == b)
 }
 
-fn equality(s: &mut [u8], base: usize, operator: usize) -> Applied
+fn equality(s: &mut [u8], base: usize, operator: usize) -> Result<(), Refusal>
     requires { Two s.old base × (5 ≤ operator) × (operator ≤ 6) }
     ensures { OnTwo (binary operator) s.old s.new base result }
 {
-    let equal = values::equal(s, base, base + Applied::SECOND);
+    let equal = values::equal(s, base, base + calling::SECOND);
     if operator == tables::binary::EQUAL {
         return calling::put_truth(s, base, equal);
     }
@@ -86,7 +86,7 @@ fn equality(s: &mut [u8], base: usize, operator: usize) -> Applied
 // ---- two integers
 
 // 7 +, 8 −, 9 ×, 10 div, 11 rem, 12 mod
-fn compute(operator: usize, a: i32, b: i32) -> Number
+fn compute(operator: usize, a: i32, b: i32) -> Result<i32, Refusal>
     requires { (7 ≤ operator) × (operator ≤ 12) }
     ensures { binary operator (integer a) (integer b) ≡ answered result }
 {
@@ -106,37 +106,31 @@ fn test(operator: usize, a: i32, b: i32) -> bool
     ensures { binary operator (integer a) (integer b) ≡ truth result }
 {
     match operator {
-        tables::binary::LESS => integers::less(a, b),
-        tables::binary::LESS_EQUAL => !integers::less(b, a),
-        tables::binary::GREATER => integers::less(b, a),
-        _ => !integers::less(a, b),
+        tables::binary::LESS => a < b,
+        tables::binary::LESS_EQUAL => a <= b,
+        tables::binary::GREATER => a > b,
+        _ => a >= b,
     }
 }
 
-fn arithmetic(s: &mut [u8], base: usize, operator: usize) -> Applied
+fn arithmetic(s: &mut [u8], base: usize, operator: usize) -> Result<(), Refusal>
     requires { Two s.old base × (7 ≤ operator) × (operator ≤ 12) }
     ensures { OnTwo (binary operator) s.old s.new base result }
 {
-    let read = calling::two_integers(s, base);
-    match read {
-        Pair::Integers(a, b) => calling::put_number(s, base, compute(operator, a, b)),
-        Pair::Others => Applied::Refused(Applied::WRONG_KIND),
-    }
+    let (a, b) = calling::two_integers(s, base)?;
+    calling::put_number(s, base, compute(operator, a, b))
 }
 
-fn comparison(s: &mut [u8], base: usize, operator: usize) -> Applied
+fn comparison(s: &mut [u8], base: usize, operator: usize) -> Result<(), Refusal>
     requires { Two s.old base × (13 ≤ operator) × (operator ≤ 16) }
     ensures { OnTwo (binary operator) s.old s.new base result }
 {
-    let read = calling::two_integers(s, base);
-    match read {
-        Pair::Integers(a, b) => calling::put_truth(s, base, test(operator, a, b)),
-        Pair::Others => Applied::Refused(Applied::WRONG_KIND),
-    }
+    let (a, b) = calling::two_integers(s, base)?;
+    calling::put_truth(s, base, test(operator, a, b))
 }
 
 // The binary operators 4 to 16.
-pub fn binary_scalar(s: &mut [u8], base: usize, operator: usize) -> Applied
+pub fn binary_scalar(s: &mut [u8], base: usize, operator: usize) -> Result<(), Refusal>
     requires { Two s.old base × (4 ≤ operator) × (operator ≤ 16) }
     ensures { OnTwo (binary operator) s.old s.new base result }
 {
@@ -155,30 +149,30 @@ pub fn binary_scalar(s: &mut [u8], base: usize, operator: usize) -> Applied
 // ---- 1 and, 2 or, 3 =>
 
 // Tests the left: true leaves the right to decide in and and =>, false in or. Else the answer is false in and, true in or and =>.
-pub fn left(s: &mut [u8], base: usize, operator: usize) -> Tested
+pub fn left(s: &mut [u8], base: usize, operator: usize) -> Result<Tested, Refusal>
     requires { One s.old base × (1 ≤ operator) × (operator ≤ 3) }
     ensures { TestsLeft (connective operator) s.old s.new base result }
 {
     let kind = values::kind_of(s, base);
     if kind != Value::BOOLEAN {
-        return Tested::Refused(Applied::WRONG_KIND);
+        return Err(Refusal::WrongKind);
     }
     let b = values::boolean_at(s, base);
     if b == (operator != tables::binary::OR) {
-        return Tested::Open;
+        return Ok(Tested::Open);
     }
     values::put_boolean(s, base, operator != tables::binary::AND);
-    Tested::Settled
+    Ok(Tested::Settled)
 }
 
 // Tests the right, where the left leaves it to decide; its value is the answer.
-pub fn right(s: &[u8], base: usize) -> Applied
+pub fn right(s: &[u8], base: usize) -> Result<(), Refusal>
     requires { One s.now base }
     ensures { OnOne right s.now s.now base result }
 {
     let kind = values::kind_of(s, base);
     if kind != Value::BOOLEAN {
-        return Applied::Refused(Applied::WRONG_KIND);
+        return Err(Refusal::WrongKind);
     }
-    Applied::Done
+    Ok(())
 }

@@ -16,8 +16,8 @@ use Rattle.collections.specs.Finding.{Counted}
 use Rattle.operators.specs.Answer.{Answer, is}
 use Rattle.operators.specs.Sets.{consecutive}
 use Rattle.operator_laws.proofs.Ranges.{sound_up}
-use Rattle.calling.specs.declared.Applied.{Applied}
-use Rattle.calling.specs.declared.Applied.TheVariants.{Done}
+use Rattle.calling.specs.Applied.{Applied}
+use Rattle.std.specs.Prelude.{Ok}
 use Rattle.calling.specs.Applied.{Applies, Gives}
 use Rattle.gathering.specs.Consecutive.{CountingRoom}
 use Rattle.calling.proofs.Answering.{is_done}
@@ -46,7 +46,7 @@ module _ {s : List ℕ} {base n : ℕ} (h : Has sequence s base) (c : Counted s 
   pub count_range : InRange (to_z w32 n)
   count_range = rw exact (fits_range (pos n) count_fits)
 
-  pub len_done : {t : List ℕ} {r : ℕ} → Put s t base (integer (to_z w32 n)) 8 r → OnItems sequence length_of s t base Done
+  pub len_done : {t : List ℕ} {r : ℕ} → Put s t base (integer (to_z w32 n)) 8 r → OnItems sequence length_of s t base (Ok tt)
   len_done {t} p =
       let a = h.held.here in
       let e : integer (to_z w32 n) ≡ integer (pos (count h.held.items)) = ap integer (exact ∙ ap pos (c sequence h.held.items a)) in

@@ -2,7 +2,6 @@
 use mathlib.Core.Path.{◌≡◌, refl, sym, ap, subst, ◌∙◌}
 use mathlib.Core.Bool.{Bool, false, ◌&&◌, cond}
 use mathlib.Core.List.{List}
-use mathlib.Core.Logic.{inr}
 use Prim.Native.Nat.{ℕ, ◌+◌, ◌-◌, ◌≤◌, ◌<◌}
 use native.Mathlib.Omega.{arith}
 use borrow.Author.Tests.{ne_eqb}
@@ -18,7 +17,8 @@ use Rattle.operators.specs.Answer.{Answer, refused, wrong_kind, closed, sized}
 use Rattle.operators.specs.Gather.{every_item, is_kind, flatten}
 use Rattle.operator_laws.proofs.OfKind.{of_kind_is, kind_test}
 use Rattle.operator_laws.proofs.Enumerations.{fitting_built}
-use Rattle.calling.specs.declared.Applied.TheVariants.{Done, Refused}
+use Rattle.std.specs.Prelude.{Ok, Err}
+use Rattle.prelude.specs.declared.Refusal.TheVariants.{WrongKind}
 use Rattle.calling.proofs.Answering.{is_off}
 use Rattle.calling.proofs.Framing.{kept_outside}
 use Rattle.calling.specs.Operands.{Has, OnItems}
@@ -55,7 +55,7 @@ module _ {s t : List ℕ} {base end p q : ℕ} (w : Flattening s t base end p q)
   pub flat_run : Uncons t p end w.rest
   flat_run = uncons lt w.rest_at
 
-  pub flat_wrong : {kind : ℕ} → KindAt t p kind → (kind ≡ 4 → ⊥) → OnItems sequence conc s t base (Refused wrong_kind)
+  pub flat_wrong : {kind : ℕ} → KindAt t p kind → (kind ≡ 4 → ⊥) → OnItems sequence conc s t base (Err WrongKind)
   flat_wrong r f =
       let y = flat_run in
       let k : is_kind sequence y.first ≡ false = kind_test sequence y.first ∙ ne_eqb 4 _ (λ e. f (r.right y.first y.first-at ∙ sym e)) in
@@ -64,7 +64,7 @@ module _ {s t : List ℕ} {base end p q : ℕ} (w : Flattening s t base end p q)
 
   module _ {kind n : ℕ} (r : KindAt t p kind) (f : kind ≡ 4) (e : n ≡ word t p) where
     pub flat_movable : Movable t (p + 4) q (n - 4)
-    flat_movable = let y = flat_run in let b = w.behind in let x = w.rest_at.fits in record { there = omega arith; room = omega arith; apart = inr (omega arith) }
+    flat_movable = let y = flat_run in let b = w.behind in let x = w.rest_at.fits in record { there = omega arith; room = omega arith }
 
     pub flat_step : {u : List ℕ} → Moved t u (p + 4) q (n - 4) → Flattening s u base end (p + n) (q + (n - 4))
     flat_step m =
@@ -78,7 +78,7 @@ module _ {s t : List ℕ} {base end p q : ℕ} (w : Flattening s t base end p q)
         (flat_on w.all w.done us y.rest (subst (Flat w.all w.done) g w.so))
 
 -- none are left: what is done is all, and no longer than what it came from
-pub flat_end : {s t u : List ℕ} {base end p q : ℕ} → Flattening s t base end p q → end ≤ p → PutHead t u base (q - base) (number sequence) → OnItems sequence conc s u base Done
+pub flat_end : {s t u : List ℕ} {base end p q : ℕ} → Flattening s t base end p q → end ≤ p → PutHead t u base (q - base) (number sequence) → OnItems sequence conc s u base (Ok tt)
 unfolding flatten every_item
 flat_end {base = base} {q = q} w le h =
     let d = w.done_at.ends in

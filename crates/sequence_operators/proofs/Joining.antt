@@ -1,10 +1,10 @@
 -- Two sequences one after the other. Assumes nothing.
 use mathlib.Core.Path.{◌≡◌, sym, ap, subst}
 use mathlib.Core.List.{List}
-use mathlib.Core.Logic.{inr}
 use Prim.Native.Nat.{ℕ, ◌+◌, ◌-◌, ◌≤◌, ◌<◌}
 use native.Mathlib.Omega.{arith}
 use lib.ListN.{take, drop}
+use Rattle.prelude.specs.declared.Refusal.TheVariants.{TooLarge}
 use Rattle.integers.specs.Bytes.{word}
 use Rattle.values.specs.Value.{sequence, number, Items, sizes, value_limit}
 use Rattle.values.specs.Items.{join}
@@ -17,7 +17,7 @@ use Rattle.values.proofs.Written.{headed_collection}
 use Rattle.operators.specs.Answer.{Answer, closed as answered, sized}
 use Rattle.operator_laws.proofs.Enumerations.{fitting_built, fits_not}
 use Rattle.calling.specs.Scratch.{second}
-use Rattle.calling.specs.declared.Applied.TheVariants.{Done, Refused}
+use Rattle.std.specs.Prelude.{Ok, Err}
 use Rattle.calling.proofs.Answering.{is_done}
 use Rattle.calling.proofs.Framing.{kept_outside}
 use Rattle.calling.specs.Operands.{HasTwo, OnBoth}
@@ -28,7 +28,7 @@ abbrev pub concatenated : Items → Items → Answer
 concatenated vs ws = sized sequence (join vs ws)
 
 module _ {s : List ℕ} {base n m : ℕ} (e : n ≡ word s base) (d : m ≡ word s (base + second)) where
-  pub join_full : value_limit < n + m - 4 → OnBoth sequence sequence concatenated s s base (Refused 28)
+  pub join_full : value_limit < n + m - 4 → OnBoth sequence sequence concatenated s s base (Err TooLarge)
   join_full f =
       both_off
       (λ vs ws a b.
@@ -38,9 +38,9 @@ module _ {s : List ℕ} {base n m : ℕ} (e : n ≡ word s base) (d : m ≡ word
 
   module _ (h : HasTwo sequence sequence s base) (f : n + m - 4 ≤ value_limit) where
     pub join_movable : Movable s (base + second + 4) (base + n) (m - 4)
-    join_movable = let a = holds h.left.here in let b = holds h.right.here in let r = h.room in record { there = omega arith; room = omega arith; apart = inr (omega arith) }
+    join_movable = let a = holds h.left.here in let b = holds h.right.here in let r = h.room in record { there = omega arith; room = omega arith }
 
-    pub join_done : {t u : List ℕ} → Moved s t (base + second + 4) (base + n) (m - 4) → PutHead t u base (n + m - 4) (number sequence) → OnBoth sequence sequence concatenated s u base Done
+    pub join_done : {t u : List ℕ} → Moved s t (base + second + 4) (base + n) (m - 4) → PutHead t u base (n + m - 4) (number sequence) → OnBoth sequence sequence concatenated s u base (Ok tt)
     join_done {t} {u} moved head =
         let a = holds h.left.here in
         let b = holds h.right.here in

@@ -5,9 +5,10 @@ use Prim.Native.Nat.{ℕ, zero, suc, ◌+◌, ◌-◌, ◌≤◌}
 use native.Mathlib.Omega.{arith}
 use Rattle.values.specs.Value.{sequence, Value, Items}
 use Rattle.values.specs.Contract.{KindAt}
-use Rattle.operators.specs.Answer.{Answer, wrong_kind, as_sequence, needs}
+use Rattle.operators.specs.Answer.{Answer, as_sequence, needs}
 use Rattle.operators.specs.Operators.{unary}
-use Rattle.calling.specs.declared.Applied.TheVariants.{Refused}
+use Rattle.std.specs.Prelude.{Err}
+use Rattle.prelude.specs.declared.Refusal.TheVariants.{WrongKind}
 use Rattle.calling.specs.Applied.{OnOne}
 use Rattle.calling.proofs.Kinding.{off_one}
 use Rattle.calling.proofs.Numbered.{past_next, meet}
@@ -28,7 +29,7 @@ asks (suc (suc (suc (suc (suc zero))))) h = record { answer = _; is = λ v. refl
 asks (suc (suc (suc (suc (suc (suc zero)))))) h = record { answer = _; is = λ v. refl }
 asks (suc (suc (suc (suc (suc (suc (suc m))))))) h = absurd (omega arith)
 
-pub not_sequence : {s : List ℕ} {base kind n : ℕ} → 7 ≤ n → n ≤ 13 → KindAt s base kind → (kind ≡ 4 → ⊥) → OnOne (unary n) s s base (Refused wrong_kind)
+pub not_sequence : {s : List ℕ} {base kind n : ℕ} → 7 ≤ n → n ≤ 13 → KindAt s base kind → (kind ≡ 4 → ⊥) → OnOne (unary n) s s base (Err WrongKind)
 not_sequence {n = n} low high r f =
     let e : 7 + (n - 7) ≡ n = omega arith in
     let a : Asks n = subst Asks e (asks (n - 7) (omega arith)) in

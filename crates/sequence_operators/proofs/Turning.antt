@@ -19,7 +19,7 @@ use Rattle.values.proofs.Joined.{join-none, join_join}
 use Rattle.operators.specs.Answer.{Answer, is}
 use Rattle.operators.specs.Gather.{backwards}
 use Rattle.calling.specs.Scratch.{second, workspace}
-use Rattle.calling.specs.declared.Applied.TheVariants.{Done}
+use Rattle.std.specs.Prelude.{Ok}
 use Rattle.calling.proofs.Answering.{is_done}
 use Rattle.calling.proofs.Framing.{kept_then, kept_outside}
 use Rattle.calling.specs.Operands.{Has, OnItems}
@@ -126,7 +126,7 @@ module _ {s t : List ℕ} {base n p q : ℕ} (w : Turning s t base n p q) where
         }
 
   -- s itself came from where the sequence stood at first
-  pub reverse_end : {o : List ℕ} {r : ℕ} → base + second + n ≤ p → Has sequence o base → Copied o s base (base + second) r → OnItems sequence reversed o t base Done
+  pub reverse_end : {o : List ℕ} {r : ℕ} → base + second + n ≤ p → Has sequence o base → Copied o s base (base + second) r → OnItems sequence reversed o t base (Ok tt)
   unfolding backwards join
   reverse_end {o} le h c =
       let a = h.held.here in

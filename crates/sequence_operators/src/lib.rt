@@ -12,42 +12,42 @@ ghost use Rattle.operators.specs.Operators.{unary, binary};
 ghost use Rattle.calling.specs.Applied.{One, Two, OnOne, OnTwo};
 ghost use Rattle.calling.specs.Operands.{Has, HasTwo, OnItems, OnBoth};
 
-use calling::Applied;
+use prelude::Refusal;
 use values::Value;
 
 // ---- one sequence
 
 // 7 len
-fn len(s: &mut [u8], base: usize) -> Applied
+fn len(s: &mut [u8], base: usize) -> Result<(), Refusal>
     requires { Has sequence s.old base }
     ensures { OnItems sequence (λ vs. is (integer (pos (count vs)))) s.old s.new base result }
 {
     let n = collections::finding::count_of(s, base);
     values::put_integer(s, base, n as i32);
-    Applied::Done
+    Ok(())
 }
 
 // 8 hd
-fn head(s: &mut [u8], base: usize) -> Applied
+fn head(s: &mut [u8], base: usize) -> Result<(), Refusal>
     requires { Has sequence s.old base }
     ensures { OnItems sequence first_item s.old s.new base result }
 {
     let n = values::length_of(s, base);
     if n == Value::HEAD {
-        return Applied::Refused(Applied::NOT_THERE);
+        return Err(Refusal::NotThere);
     }
     values::copy_value(s, base + Value::HEAD, base);
-    Applied::Done
+    Ok(())
 }
 
 // 9 tl: what follows the first item moves down over it.
-fn tail(s: &mut [u8], base: usize) -> Applied
+fn tail(s: &mut [u8], base: usize) -> Result<(), Refusal>
     requires { Has sequence s.old base }
     ensures { OnItems sequence tail_of s.old s.new base result }
 {
     let n = values::length_of(s, base);
     if n == Value::HEAD {
-        return Applied::Refused(Applied::NOT_THERE);
+        return Err(Refusal::NotThere);
     }
     let first = values::length_of(s, base + Value::HEAD);
     values::copy_bytes(
@@ -57,11 +57,11 @@ fn tail(s: &mut [u8], base: usize) -> Applied
         n - Value::HEAD - first,
     );
     values::put_head(s, base, n - first, Value::SEQUENCE);
-    Applied::Done
+    Ok(())
 }
 
 // 11 inds: the integers from 1 up to the number of items.
-fn indexes(s: &mut [u8], base: usize) -> Applied
+fn indexes(s: &mut [u8], base: usize) -> Result<(), Refusal>
     requires { Has sequence s.old base }
     ensures { OnItems sequence (λ vs. consecutive (pos 1) (count vs)) s.old s.new base result }
 {
@@ -70,7 +70,7 @@ fn indexes(s: &mut [u8], base: usize) -> Applied
 }
 
 // 12 conc: the items of each sequence move down over the headings.
-fn flatten(s: &mut [u8], base: usize) -> Applied
+fn flatten(s: &mut [u8], base: usize) -> Result<(), Refusal>
     requires { Has sequence s.old base }
     ensures { OnItems sequence (λ vs. cond (every_item (is_kind sequence) vs) (sized sequence (flatten vs)) (refused wrong_kind)) s.old s.new base result }
 {
@@ -79,7 +79,7 @@ fn flatten(s: &mut [u8], base: usize) -> Applied
     let mut q = base + Value::HEAD;
     while p < end {
         if values::kind_of(s, p) != Value::SEQUENCE {
-            return Applied::Refused(Applied::WRONG_KIND);
+            return Err(Refusal::WrongKind);
         }
         let n = values::length_of(s, p);
         values::copy_bytes(s, p + Value::HEAD, q, n - Value::HEAD);
@@ -87,18 +87,18 @@ fn flatten(s: &mut [u8], base: usize) -> Applied
         p += n;
     }
     values::put_head(s, base, q - base, Value::SEQUENCE);
-    Applied::Done
+    Ok(())
 }
 
 // 13 reverse: a copy's items are put back from the end down.
-fn reverse(s: &mut [u8], base: usize) -> Applied
+fn reverse(s: &mut [u8], base: usize) -> Result<(), Refusal>
     requires { Has sequence s.old base }
     ensures { OnItems sequence (λ vs. is (collection sequence (backwards vs))) s.old s.new base result }
 {
     let n = values::length_of(s, base);
-    values::copy_value(s, base, base + Applied::SECOND);
-    let end = base + Applied::SECOND + n;
-    let mut p = base + Applied::SECOND + Value::HEAD;
+    values::copy_value(s, base, base + calling::SECOND);
+    let end = base + calling::SECOND + n;
+    let mut p = base + calling::SECOND + Value::HEAD;
     let mut q = base + n;
     while p < end {
         let m = values::length_of(s, p);
@@ -106,17 +106,17 @@ fn reverse(s: &mut [u8], base: usize) -> Applied
         values::copy_value(s, p, q);
         p += m;
     }
-    Applied::Done
+    Ok(())
 }
 
 // The unary operators 7 to 13.
-pub fn unary_sequence(s: &mut [u8], base: usize, operator: usize) -> Applied
+pub fn unary_sequence(s: &mut [u8], base: usize, operator: usize) -> Result<(), Refusal>
     requires { One s.old base × (7 ≤ operator) × (operator ≤ 13) }
     ensures { OnOne (unary operator) s.old s.new base result }
 {
     let kind = values::kind_of(s, base);
     if kind != Value::SEQUENCE {
-        return Applied::Refused(Applied::WRONG_KIND);
+        return Err(Refusal::WrongKind);
     }
     match operator {
         tables::unary::LEN => len(s, base),
@@ -132,33 +132,33 @@ pub fn unary_sequence(s: &mut [u8], base: usize, operator: usize) -> Applied
 // ---- two sequences
 
 // The items of the second sequence move up to those of the first, which has them then; 28 where that is over 512 bytes.
-fn join(s: &mut [u8], base: usize) -> Applied
+fn join(s: &mut [u8], base: usize) -> Result<(), Refusal>
     requires { HasTwo sequence sequence s.old base }
     ensures { OnBoth sequence sequence (λ vs ws. sized sequence (join vs ws)) s.old s.new base result }
 {
     let n = values::length_of(s, base);
-    let m = values::length_of(s, base + Applied::SECOND);
+    let m = values::length_of(s, base + calling::SECOND);
     let whole = n + m - Value::HEAD;
     if Value::LIMIT < whole {
-        return Applied::Refused(Applied::TOO_LARGE);
+        return Err(Refusal::TooLarge);
     }
     values::copy_bytes(
         s,
-        base + Applied::SECOND + Value::HEAD,
+        base + calling::SECOND + Value::HEAD,
         base + n,
         m - Value::HEAD,
     );
     values::put_head(s, base, whole, Value::SEQUENCE);
-    Applied::Done
+    Ok(())
 }
 
 // 24 ^
-pub fn concatenate(s: &mut [u8], base: usize) -> Applied
+pub fn concatenate(s: &mut [u8], base: usize) -> Result<(), Refusal>
     requires { Two s.old base }
     ensures { OnTwo (binary 24) s.old s.new base result }
 {
     if calling::kinds_are(s, base, Value::SEQUENCE, Value::SEQUENCE) {
         return join(s, base);
     }
-    Applied::Refused(Applied::WRONG_KIND)
+    Err(Refusal::WrongKind)
 }

@@ -12,14 +12,17 @@ use Rattle.integers.specs.Bytes.{word}
 use Rattle.values.specs.Value.{set, Value, collection, Items, none, more, size, Ascending, value_limit}
 use Rattle.values.specs.Items.{same, is_member}
 use Rattle.values.specs.Place.{At, ItemsAt, HoldsItems}
-use Rattle.values.specs.Contract.{Equal, Copyable, Copied}
+use Rattle.values.specs.Contract.{AreEqual, Copyable, Copied}
 use Rattle.values.proofs.Order.{same_true, true_same}
 use Rattle.values.proofs.Encoding.{collection_size}
 use Rattle.values.proofs.Records.{holds, word_size, items_to, one-item, collection_shaped}
-use Rattle.collections.specs.declared.building.Added.{Added}
-use Rattle.collections.specs.declared.building.Added.TheVariants.{Done as Fitted, Full as TooLong}
+use Rattle.collections.specs.Building.{Added}
+use Rattle.std.specs.Prelude.{Ok, Err}
+use Rattle.prelude.specs.declared.Refusal.{Refusal}
+use Rattle.prelude.specs.declared.Refusal.TheVariants.{WrongKind, TooLarge}
+use Rattle.prelude.specs.Refusals.{number_of}
 use Rattle.collections.specs.Finding.{HoldsKind, Contains}
-use Rattle.collections.proofs.Built.{put_within, long_past}
+use Rattle.collections.proofs.Built.{put_within, long_past, long_is}
 use Rattle.operators.specs.Answer.{is, refused, wrong_kind, as_set, closed, sized}
 use Rattle.operators.specs.Booleans.{truth}
 use Rattle.operators.specs.Gather.{every_item, keep_items}
@@ -28,8 +31,7 @@ use Rattle.operators.specs.Operators.{binary}
 use Rattle.operator_laws.proofs.Enumerations.{fitting_built as fitting_is, fits_not}
 use Rattle.operator_laws.proofs.Sets.{subset_all, subset_equal}
 use Rattle.calling.specs.Scratch.{second, third}
-use Rattle.calling.specs.declared.Applied.{Applied}
-use Rattle.calling.specs.declared.Applied.TheVariants.{Done, Refused}
+use Rattle.calling.specs.Applied.{Applied}
 use Rattle.calling.specs.Applied.{Two, OnTwo, Gives}
 use Rattle.calling.proofs.Framing.{kept_outside, copyable_down}
 use Rattle.calling.proofs.Answering.{two_by, two_off, is_off, two_gives, gives_same, two_copied}
@@ -55,7 +57,7 @@ module _ {n : ℕ} (low : 17 ≤ n) (high : n ≤ 18) where
       either (λ (m : ℕ). binary m v w ≡ refused wrong_kind) 17 18 refl low high (needs_off (λ ws. truth (is_member v ws)) e) (needs_off (λ ws. truth (not (is_member v ws))) e)
 
   module _ {s : List ℕ} {base : ℕ} {r : Bool} (k : IsOfKind s (base + second) 3 r) where
-    pub membership_off : r ≡ false → OnTwo (binary n) s s base (Refused 20)
+    pub membership_off : r ≡ false → OnTwo (binary n) s s base (Err WrongKind)
     membership_off e = two_off (λ v w a b. member_off v w (k.no set refl e w b))
 
     pub membership_done : {t : List ℕ} {found : Bool} {q : Applied} → r ≡ true → Two s base → Contains s (base + second) base found → Gives (truth (beq found (eqb n 17))) s t base q → OnTwo (binary n) s t base q
@@ -68,22 +70,24 @@ module _ {n : ℕ} (low : 17 ≤ n) (high : n ≤ 18) where
 
 -- ---- a set that was built
 
-pub grown_done : {t : List ℕ} {at : ℕ} {us : Items} {r : Added} → Grown t at us r → r ≡ Fitted → sized set us ≡ is (collection set us)
+pub grown_done : {t : List ℕ} {at : ℕ} {us : Items} {r : Added} → Grown t at us r → r ≡ Ok tt → sized set us ≡ is (collection set us)
 grown_done {us = us} g e =
     let h : size (collection set us) ≤ value_limit = put_within g.answers e in
     let c = collection_size set us in
     ap (closed set) (fitting_is us (omega arith))
 
-pub grown_full : {t : List ℕ} {at : ℕ} {us : Items} {r : Added} → Grown t at us r → r ≡ TooLong → sized set us ≡ refused 28
-grown_full {us = us} g e =
+pub grown_full : {t : List ℕ} {at : ℕ} {us : Items} {r : Added} {why : Refusal} → Grown t at us r → r ≡ Err why → sized set us ≡ refused (number_of why)
+grown_full {us = us} {why = why} g e =
     let h : value_limit < size (collection set us) = long_past g.answers e in
     let c = collection_size set us in
-    ap (closed set) (fits_not us (omega arith))
+    let long = long_is (size (collection set us)) g.answers e in
+    let d : why ≡ TooLarge = cc in
+    ap (closed set) (fits_not us (omega arith)) ∙ ap (λ (w : Refusal). refused (number_of w)) (sym d)
 
 -- ---- 19 union
 
 module _ {s : List ℕ} {base : ℕ} {b : Bool} (k : TwoSets s base b) (two : Two s base) where
-  pub union_off : b ≡ false → OnTwo (binary 19) s s base (Refused 20)
+  pub union_off : b ≡ false → OnTwo (binary 19) s s base (Err WrongKind)
   unfolding binary
   union_off e = two_off (λ v w x y. k.others e v w x y _)
 
@@ -99,14 +103,14 @@ module _ {s : List ℕ} {base : ℕ} {b : Bool} (k : TwoSets s base b) (two : Tw
       united : Grown t (base + third) (unite (k.left e).items (k.right e).items) r
       united = m.right (k.left e).items (k.right e).items (k.left e).here (k.right e).here
 
-      pub union_full : r ≡ TooLong → OnTwo (binary 19) s t base (Refused 28)
+      pub union_full : {why : Refusal} → r ≡ Err why → OnTwo (binary 19) s t base (Err why)
       unfolding binary
       union_full f = two_by (kept_outside (omega arith) m.frame) (k.left e).here (k.right e).here (is_off (grown_full united f))
 
-      pub union_copy : r ≡ Fitted → Copyable t (base + third) base
+      pub union_copy : r ≡ Ok tt → Copyable t (base + third) base
       union_copy f = copyable_down (omega arith) (holds (united.made f))
 
-      pub union_done : r ≡ Fitted → {u : List ℕ} {n : ℕ} → Copied t u (base + third) base n → OnTwo (binary 19) s u base Done
+      pub union_done : r ≡ Ok tt → {u : List ℕ} {n : ℕ} → Copied t u (base + third) base n → OnTwo (binary 19) s u base (Ok tt)
       unfolding binary
       union_done f c = two_copied (kept_outside (omega arith) m.frame) (k.left e).here (k.right e).here (grown_done united f) (united.made f) c
 
@@ -130,7 +134,7 @@ module _ {op : ℕ} (low : 20 ≤ op) (high : op ≤ 21) where
       (ap (λ (us : Items). is (collection set us)) (keep_same (λ v. not (is_member v ws)) (λ v. not (is_member v ws && true)) vs (λ v. ap not (and-true (is_member v ws)))))
 
   module _ {s : List ℕ} {base : ℕ} {b : Bool} (k : TwoSets s base b) (two : Two s base) where
-    pub selection_off : b ≡ false → OnTwo (binary op) s s base (Refused 20)
+    pub selection_off : b ≡ false → OnTwo (binary op) s s base (Err WrongKind)
     unfolding binary
     selection_off e =
         two_off (λ v w x y. either (λ (m : ℕ). binary m v w ≡ refused wrong_kind) 20 21 refl low high (k.others e v w x y _) (k.others e v w x y _))
@@ -164,7 +168,7 @@ module _ {op : ℕ} (low : 20 ≤ op) (high : op ≤ 21) where
         pub selection_copy : Copyable t (base + third) base
         selection_copy = copyable_down (omega arith) (holds selected)
 
-        pub selection_done : {u : List ℕ} {m : ℕ} → Copied t u (base + third) base m → OnTwo (binary op) s u base Done
+        pub selection_done : {u : List ℕ} {m : ℕ} → Copied t u (base + third) base m → OnTwo (binary op) s u base (Ok tt)
         selection_done d = two_copied (kept_outside (omega arith) c.frame) (k.left e).here (k.right e).here (chosen_is (k.left e).items (k.right e).items) selected d
 
 -- ---- 22 subset, 23 psubset
@@ -210,7 +214,7 @@ module _ (vs ws : Items) (a : Ascending vs) (b : Ascending ws) where
       whole false = refl
 
 module _ {s : List ℕ} {base : ℕ} {b : Bool} (k : TwoSets s base b) where
-  pub inclusion_off : {op : ℕ} → 22 ≤ op → op ≤ 23 → b ≡ false → OnTwo (binary op) s s base (Refused 20)
+  pub inclusion_off : {op : ℕ} → 22 ≤ op → op ≤ 23 → b ≡ false → OnTwo (binary op) s s base (Err WrongKind)
   unfolding binary
   inclusion_off low high e =
       two_off (λ v w x y. either (λ (m : ℕ). binary m v w ≡ refused wrong_kind) 22 23 refl low high (k.others e v w x y _) (k.others e v w x y _))
@@ -227,7 +231,7 @@ module _ {s : List ℕ} {base : ℕ} {b : Bool} (k : TwoSets s base b) where
       unfolding binary
       subset_done d g = binary_as 22 d (two_gives (k.left e).here (k.right e).here (gives_same (ap truth (sym inside_is)) g))
 
-      pub psubset_done : {t : List ℕ} {op : ℕ} {equal : Bool} {r : Applied} → op ≡ 23 → Equal s base (base + second) equal → Gives (truth (not (beq inside equal))) s t base r → OnTwo (binary op) s t base r
+      pub psubset_done : {t : List ℕ} {op : ℕ} {equal : Bool} {r : Applied} → op ≡ 23 → AreEqual s base (base + second) equal → Gives (truth (not (beq inside equal))) s t base r → OnTwo (binary op) s t base r
       unfolding binary
       psubset_done {equal = equal} d f g =
           let vs = (k.left e).items in

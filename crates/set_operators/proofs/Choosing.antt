@@ -5,6 +5,7 @@ use mathlib.Core.List.{List}
 use mathlib.Core.Logic.{inl}
 use Prim.Native.Nat.{ℕ, ◌+◌, ◌≤◌, ◌<◌}
 use native.Mathlib.Omega.{arith}
+use Rattle.std.specs.Prelude.{Ok}
 use Rattle.integers.specs.Bytes.{word}
 use Rattle.values.specs.Value.{set, sequence, Value, collection, Items, none, more, size, sizes, value_limit}
 use Rattle.values.specs.Items.{join, snoc}
@@ -12,7 +13,7 @@ use Rattle.values.specs.Place.{At, ItemsAt, Holds, Outside}
 use Rattle.values.proofs.Encoding.{collection_size, snoc_sizes}
 use Rattle.values.proofs.Records.{holds, word_size, items_to, collection_shaped}
 use Rattle.values.proofs.Frame.{outside_none, outside_wider, outside_both, at_below, items_below, word_below}
-use Rattle.collections.specs.declared.building.Added.{Added}
+use Rattle.collections.specs.Building.{Added}
 use Rattle.values.proofs.Joined.{join-none, join_join}
 use Rattle.collections.specs.Finding.{HoldsCollection}
 use Rattle.collections.specs.Building.{Appends, Empties, Retags}
@@ -32,21 +33,23 @@ as_wanted_lem true false = refl
 as_wanted_lem false true = refl
 as_wanted_lem false false = refl
 
+pub append_fits : {s t : List ℕ} {at x : ℕ} {r : Added} → Appendable s at x → Appends s t at x r → r ≡ Ok tt
+append_fits {s} {at = at} {x = x} p q =
+    let us = p.room.held.items in
+    let v = p.room.item.value in
+    let a = p.room.held.here in
+    let h = p.room.item.here in
+    let y = q.right us v a h in
+    let c₁ = collection_size sequence us in
+    let c₂ = collection_size sequence (snoc us v) in
+    let c₃ = snoc_sizes us v in
+    let m = word_size a in
+    let n = word_size h in
+    let f = p.fits in
+    y.answers ∙ sym (added_put (size (collection sequence (snoc us v))) (omega arith))
+
 pub append_done : {s t : List ℕ} {at x : ℕ} {r : Added} {b : Bool} → Appendable s at x → Appends s t at x r → b ≡ true → AppendsIf s t at x b
-append_done {s} {t} {at} {x} {r} {b} p q e =
-    record {
-      frame = q.frame;
-      right = λ us v a h.
-          let y = q.right us v a h in
-          let c₁ = collection_size sequence us in
-          let c₂ = collection_size sequence (snoc us v) in
-          let c₃ = snoc_sizes us v in
-          let m = word_size a in
-          let n = word_size h in
-          let f = p.fits in
-          let d = y.made (y.answers ∙ sym (added_put (size (collection sequence (snoc us v))) (omega arith))) in
-          rw e d;
-    }
+append_done p q e = record { frame = q.frame; right = λ us v a h. rw e ((q.right us v a h).made (append_fits p q)) }
 
 pub passed_over : (s : List ℕ) (at x : ℕ) {b : Bool} → b ≡ false → AppendsIf s s at x b
 passed_over s at x e = record { frame = outside_none s at (at + value_limit); right = λ us v a h. rw e a }

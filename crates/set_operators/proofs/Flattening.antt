@@ -9,7 +9,7 @@ use Rattle.values.specs.Value.{set, Value, collection, Items, none, more, value_
 use Rattle.values.specs.Items.{join, insert}
 use Rattle.values.specs.Place.{At, HoldsItems, Outside}
 use Rattle.values.proofs.Records.{items_to, one_value}
-use Rattle.collections.specs.declared.building.Added.{Added}
+use Rattle.collections.specs.Building.{Added}
 use Rattle.collections.specs.Building.{Apart}
 use Rattle.collections.proofs.Built.{at_apart}
 use Rattle.operators.specs.Gather.{insert_all, items_in, flatten}

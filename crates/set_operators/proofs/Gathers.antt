@@ -16,8 +16,10 @@ use Rattle.values.specs.Place.{At, ItemsAt, Holds, HoldsItems}
 use Rattle.values.specs.Contract.{Put, Copyable, Copied}
 use Rattle.values.proofs.Encoding.{collection_size, count_sizes}
 use Rattle.values.proofs.Records.{holds, items_to, items_none}
-use Rattle.collections.specs.declared.building.Added.{Added}
-use Rattle.collections.specs.declared.building.Added.TheVariants.{Done as Fitted, Full as TooLong}
+use Rattle.collections.specs.Building.{Added}
+use Rattle.std.specs.Prelude.{Ok, Err}
+use Rattle.prelude.specs.declared.Refusal.{Refusal}
+use Rattle.prelude.specs.declared.Refusal.TheVariants.{WrongKind, NotThere}
 use Rattle.collections.specs.Finding.{HoldsCollection, Counted}
 use Rattle.collections.specs.Building.{Empties}
 use Rattle.operators.specs.Answer.{is}
@@ -25,13 +27,14 @@ use Rattle.operators.specs.Gather.{every_item, insert_all, is_kind, flatten}
 use Rattle.operators.specs.Sets.{intersection_of}
 use Rattle.operators.specs.Operators.{unary}
 use Rattle.operator_laws.proofs.Ranges.{up_le}
-use Rattle.calling.specs.declared.Applied.TheVariants.{Done, Refused}
 use Rattle.calling.specs.Applied.{One, OnOne}
 use Rattle.calling.specs.Scratch.{second, third}
 use Rattle.calling.proofs.Framing.{kept_same, kept_outside, copyable_down}
 use Rattle.calling.proofs.Answering.{one_by, one_off, is_off, one_put, one_copied}
 use Rattle.calling.proofs.Kinding.{needs_off}
-use Rattle.set_operators.specs.Members.{HoldsSets, wanted_of, Choice, Chosen, AllOfKind}
+use Rattle.set_operators.specs.Members.{HoldsSets, wanted_of, Choice, Chosen}
+use Rattle.gathering.specs.Kinds.{AllOfKind}
+use Rattle.gathering.proofs.Testing.{every_kind}
 use Rattle.gathering.specs.Inserting.{Growing, Grown, InsertsAll}
 use Rattle.gathering.proofs.Gathered.{still_there, empty_room, gathered, gathered_kept}
 use Rattle.set_operators.specs.Operands.{IsOfKind}
@@ -41,7 +44,7 @@ use Rattle.set_operators.proofs.Answers.{grown_done, grown_full}
 -- ---- 4 card
 
 module _ {s : List ℕ} {base : ℕ} {b : Bool} (k : IsOfKind s base 3 b) where
-  pub card_off : b ≡ false → OnOne (unary 4) s s base (Refused 20)
+  pub card_off : b ≡ false → OnOne (unary 4) s s base (Err WrongKind)
   unfolding unary
   card_off e = one_off (λ v a. needs_off _ (k.no set refl e v a))
 
@@ -70,7 +73,7 @@ module _ {s : List ℕ} {base : ℕ} {b : Bool} (k : IsOfKind s base 3 b) where
     pub card-range : InRange (to_z w32 n)
     card-range = let h = few in subst InRange (sym exact) (up_le (pos n) greatest_integer (omega arith))
 
-    pub card_done : {t : List ℕ} {m r : ℕ} → Put s t base (integer (to_z w32 n)) m r → OnOne (unary 4) s t base Done
+    pub card_done : {t : List ℕ} {m r : ℕ} → Put s t base (integer (to_z w32 n)) m r → OnOne (unary 4) s t base (Ok tt)
     unfolding unary
     card_done p =
         let h = k.yes set refl e in
@@ -82,23 +85,23 @@ module _ {s : List ℕ} {base : ℕ} {b : Bool} (k : IsOfKind s base 3 b) where
   pub set_items : b ≡ true → {n : ℕ} → n ≡ word s base → HoldsItems s (base + 4) (base + n)
   set_items e q = ((k.yes set refl e).items, items_to q (k.yes set refl e).here)
 
-  pub union_of_none : b ≡ false → OnOne (unary 5) s s base (Refused 20)
+  pub union_of_none : b ≡ false → OnOne (unary 5) s s base (Err WrongKind)
   unfolding unary
   union_of_none e = one_off (λ v a. needs_off _ (k.no set refl e v a))
 
-  pub intersection_of_none : b ≡ false → OnOne (unary 6) s s base (Refused 20)
+  pub intersection_of_none : b ≡ false → OnOne (unary 6) s s base (Err WrongKind)
   unfolding unary
   intersection_of_none e = one_off (λ v a. needs_off _ (k.no set refl e v a))
 
-  module _ (e : b ≡ true) {n : ℕ} (q : n ≡ word s base) {c : Bool} (all : AllOfKind s (base + 4) (base + n) 3 c) (d : c ≡ false) where
+  module _ (e : b ≡ true) {n : ℕ} (q : n ≡ word s base) {c : Bool} (all : AllOfKind 3 s (base + 4) (base + n) c) (d : c ≡ false) where
     others : every_item (is_kind set) (k.yes set refl e).items ≡ false
-    others = sym (all set (k.yes set refl e).items refl (items_to q (k.yes set refl e).here)) ∙ d
+    others = sym (every_kind set (k.yes set refl e).items) ∙ sym (all (k.yes set refl e).items (items_to q (k.yes set refl e).here)) ∙ d
 
-    pub union_of_others : OnOne (unary 5) s s base (Refused 20)
+    pub union_of_others : OnOne (unary 5) s s base (Err WrongKind)
     unfolding unary
     union_of_others = one_by (kept_same s base) (k.yes set refl e).here (is_off (cond-false _ _ _ others))
 
-    pub intersection_of_others : OnOne (unary 6) s s base (Refused 20)
+    pub intersection_of_others : OnOne (unary 6) s s base (Err WrongKind)
     unfolding unary
     intersection_of_others = one_by (kept_same s base) (k.yes set refl e).here (is_off (cond-false _ _ _ others))
 
@@ -112,21 +115,21 @@ module _ {s t : List ℕ} {base n : ℕ} (f : Family s base (base + n)) (one : O
     grown : Grown u (base + second) (insert_all none (flatten f.members)) r
     grown = gathered f.here n q e one.room i
 
-    pub dunion_full : r ≡ TooLong → OnOne (unary 5) s u base (Refused 28)
+    pub dunion_full : {why : Refusal} → r ≡ Err why → OnOne (unary 5) s u base (Err why)
     unfolding unary
     dunion_full d = one_by (gathered_kept f.here n q e one.room i) f.here (is_off (cond-true _ _ _ f.sets ∙ grown_full grown d))
 
-    pub dunion_copy : r ≡ Fitted → Copyable u (base + second) base
+    pub dunion_copy : r ≡ Ok tt → Copyable u (base + second) base
     dunion_copy d = copyable_down (omega arith) (holds (grown.made d))
 
-    pub dunion_done : r ≡ Fitted → {w : List ℕ} {m : ℕ} → Copied u w (base + second) base m → OnOne (unary 5) s w base Done
+    pub dunion_done : r ≡ Ok tt → {w : List ℕ} {m : ℕ} → Copied u w (base + second) base m → OnOne (unary 5) s w base (Ok tt)
     unfolding unary
     dunion_done d c = one_copied (gathered_kept f.here n q e one.room i) f.here (cond-true _ _ _ f.sets ∙ grown_done grown d) (grown.made d) c
 
 -- ---- 6 dinter
 
 module _ {s : List ℕ} {base end : ℕ} (f : Family s base end) where
-  pub dinter_none : end ≡ base + 4 → OnOne (unary 6) s s base (Refused 26)
+  pub dinter_none : end ≡ base + 4 → OnOne (unary 6) s s base (Err NotThere)
   unfolding unary
   dinter_none d =
       let h = items_none (omega arith) f.items in
@@ -161,7 +164,7 @@ module _ {s : List ℕ} {base end : ℕ} (f : Family s base end) where
         pub dinter_copy : Copyable t (base + third) base
         dinter_copy = copyable_down (omega arith) (holds common)
 
-        pub dinter_done : {u : List ℕ} {m : ℕ} → Copied t u (base + third) base m → OnOne (unary 6) s u base Done
+        pub dinter_done : {u : List ℕ} {m : ℕ} → Copied t u (base + third) base m → OnOne (unary 6) s u base (Ok tt)
         unfolding unary
         dinter_done d =
             one_copied (kept_outside (omega arith) c.frame) f.here (cond-true _ _ _ f.sets ∙ ap intersection_of (first_of_sets f ne).is) common d

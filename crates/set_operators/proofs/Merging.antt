@@ -9,8 +9,8 @@ use lib.ListN.{length, take, drop}
 use Rattle.prelude.proofs.Absurd.{impossible}
 use Rattle.integers.specs.Bytes.{word}
 use Rattle.integers.specs.Whole.{InRange}
-use Rattle.integers.specs.declared.Order.{Order}
-use Rattle.integers.specs.declared.Order.TheVariants.{Lower, Same, Higher}
+use Rattle.std.specs.declared.cmp.Ordering.{Ordering}
+use Rattle.std.specs.declared.cmp.Ordering.TheVariants.{Less, Equal, Greater}
 use Rattle.values.specs.Value.{set, Value, integer, collection, Items, none, more, size, sizes, Ascending, value_limit}
 use Rattle.values.specs.Items.{join, snoc, in_order}
 use Rattle.values.specs.Place.{At, ItemsAt, Holds, Outside}
@@ -20,8 +20,9 @@ use Rattle.values.proofs.Joined.{join-none}
 use Rattle.values.proofs.Records.{integer_range, holds, word_size, items_to, items_none, no_items, first-of, uncons_of, one_more, one_value, collection_shaped}
 use Rattle.values.proofs.Frame.{outside_none, outside_wider, outside_both, items_below}
 use Rattle.values.proofs.Written.{headed_collection}
-use Rattle.collections.specs.declared.building.Added.{Added}
-use Rattle.collections.specs.declared.building.Added.TheVariants.{Done as Fitted, Full as TooLong}
+use Rattle.collections.specs.Building.{Added}
+use Rattle.std.specs.Prelude.{Ok, Err}
+use Rattle.prelude.specs.declared.Refusal.TheVariants.{TooLarge}
 use Rattle.collections.proofs.Additions.{added_put, added_long}
 use Rattle.operators.specs.Gather.{insert_all}
 use Rattle.operators.specs.Sets.{unite}
@@ -33,13 +34,13 @@ use Rattle.set_operators.proofs.Passing.{Passes, passes}
 -- ---- on which side it is, as the code tells it
 
 module _ {s : List ℕ} {a a' b b' : ℕ} where
-  pub side_left : b ≡ b' → LeastOn s a a' b b' Lower
+  pub side_left : b ≡ b' → LeastOn s a a' b b' Less
   side_left e vs ws h k = ap (least_on vs) (sym (items_none (omega arith) k))
 
-  pub side_right : (b ≡ b' → ⊥) → a ≡ a' → LeastOn s a a' b b' Higher
+  pub side_right : (b ≡ b' → ⊥) → a ≡ a' → LeastOn s a a' b b' Greater
   side_right n e vs ws h k = sym (ap₂ least_on (items_none (omega arith) h) (uncons_of n k).is)
 
-  pub side_compared : {o : Order} → (a ≡ a' → ⊥) → (b ≡ b' → ⊥) → Ordered s a b o → LeastOn s a a' b b' o
+  pub side_compared : {o : Ordering} → (a ≡ a' → ⊥) → (b ≡ b' → ⊥) → Ordered s a b o → LeastOn s a a' b b' o
   side_compared n m q vs ws h k =
       let x = uncons_of n h in
       let y = uncons_of m k in
@@ -120,22 +121,22 @@ merge_start {s} {x} {y} {at} {n} {m} r e d =
     }
 
 -- m, the least of those left, and those left once it is passed
-record Least (t : List ℕ) (at a a' b b' : ℕ) (o : Order) (m : Value) (vs ws : Items) : Type 0 where
+record Least (t : List ℕ) (at a a' b b' : ℕ) (o : Ordering) (m : Value) (vs ws : Items) : Type 0 where
   pub here : At t (in_order o a a b) m
   pub under : in_order o a a b + size m ≤ at
   pub left_at : ItemsAt t (in_order o (a + size m) (a + size m) a) a' vs
   pub right_at : ItemsAt t (in_order o b (b + size m) (b + size m)) b' ws
 
-least_of : {t : List ℕ} {at a a' b b' : ℕ} (o : Order) (m : Value) (vs ws : Items) → a' ≤ at → b' ≤ at
+least_of : {t : List ℕ} {at a a' b b' : ℕ} (o : Ordering) (m : Value) (vs ws : Items) → a' ≤ at → b' ≤ at
     → ItemsAt t a a' (in_order o (more m vs) (more m vs) vs) → ItemsAt t b b' (in_order o ws (more m ws) (more m ws)) → Least t at a a' b b' o m vs ws
-least_of Lower m vs ws f g h k = let x = first-of h in let e = x.1.ends in record { here = x.0; under = omega arith; left_at = x.1; right_at = k }
-least_of Same m vs ws f g h k = let x = first-of h in let e = x.1.ends in record { here = x.0; under = omega arith; left_at = x.1; right_at = (first-of k).1 }
-least_of Higher m vs ws f g h k = let x = first-of k in let e = x.1.ends in record { here = x.0; under = omega arith; left_at = h; right_at = x.1 }
+least_of Less m vs ws f g h k = let x = first-of h in let e = x.1.ends in record { here = x.0; under = omega arith; left_at = x.1; right_at = k }
+least_of Equal m vs ws f g h k = let x = first-of h in let e = x.1.ends in record { here = x.0; under = omega arith; left_at = x.1; right_at = (first-of k).1 }
+least_of Greater m vs ws f g h k = let x = first-of k in let e = x.1.ends in record { here = x.0; under = omega arith; left_at = h; right_at = x.1 }
 
-further : (o : Order) (a b n : ℕ) → 0 < n → a + b < in_order o (a + n) (a + n) a + in_order o b (b + n) (b + n)
-further Lower a b n lt = omega arith
-further Same a b n lt = omega arith
-further Higher a b n lt = omega arith
+further : (o : Ordering) (a b n : ℕ) → 0 < n → a + b < in_order o (a + n) (a + n) a + in_order o b (b + n) (b + n)
+further Less a b n lt = omega arith
+further Equal a b n lt = omega arith
+further Greater a b n lt = omega arith
 
 module _ {s t : List ℕ} {x y at a a' b b' p : ℕ} (w : Merging s t x y at a a' b b' p) where
   left_whole : Ascending (join w.us w.vs)
@@ -153,7 +154,7 @@ module _ {s t : List ℕ} {x y at a a' b b' p : ℕ} (w : Merging s t x y at a a
       }
 
   -- where a member is left, o says on which side the least is, and it stands at `least`
-  module _ {o : Order} {least : ℕ} (lt : a + b < a' + b') (q : LeastOn t a a' b b' o) (e : least ≡ in_order o a a b) where
+  module _ {o : Ordering} {least : ℕ} (lt : a + b < a' + b') (q : LeastOn t a a' b b' o) (e : least ≡ in_order o a a b) where
     next : Passes w.us w.xs w.vs w.ws o
     next =
         let l = w.left_at.ends in
@@ -186,7 +187,7 @@ module _ {s t : List ℕ} {x y at a a' b b' p : ℕ} (w : Merging s t x y at a a
           let l = is_size in
           omega arith
 
-      pub merge_full : at + value_limit < p + n → Merged s t x y at TooLong
+      pub merge_full : at + value_limit < p + n → Merged s t x y at (Err TooLarge)
       merge_full over =
           let us = unite (join w.us w.vs) (join w.xs w.ws) in
           let so : unite (join next.us' next.vs') (join next.xs' next.ws') ≡ us = ap₂ unite (sym next.left_so) (sym next.right_so) in
@@ -243,7 +244,7 @@ module _ {s t : List ℕ} {x y at a a' b b' p : ℕ} (w : Merging s t x y at a a
     merge_less {n = n} d i j = let h = merge_holds.low in let f = further o a b n (omega arith) in omega arith
 
   -- none are left, and the heading is written
-  pub merge_close : {u : List ℕ} {n : ℕ} → a' + b' ≤ a + b → at + n ≡ p → PutHead t u at n 3 → Merged s u x y at Fitted
+  pub merge_close : {u : List ℕ} {n : ℕ} → a' + b' ≤ a + b → at + n ≡ p → PutHead t u at n 3 → Merged s u x y at (Ok tt)
   merge_close {u} {n} le e h =
       let us = unite w.us w.xs in
       let l = w.left_at.ends in
@@ -253,5 +254,5 @@ module _ {s t : List ℕ} {x y at a a' b b' p : ℕ} (w : Merging s t x y at a a
       let right_none : join w.xs w.ws ≡ w.xs = ap (join w.xs) (items_none (omega arith) w.right_at) ∙ join-none w.xs in
       let made : At u at (collection set us) = headed_collection n h.bytes e (omega arith) (ascending_parts us w.vs w.left_above).0 w.built in
       whole (outside_both w.frame (outside_wider (omega arith) (omega arith) h.outside))
-      (subst (λ (ys : Items). Grown u at ys Fitted) (sym (ap₂ unite left_none right_none))
+      (subst (λ (ys : Items). Grown u at ys (Ok tt)) (sym (ap₂ unite left_none right_none))
       (record { answers = added_put (size (collection set us)) made.fine.short; made = λ z. made }))

@@ -2,8 +2,8 @@
 use mathlib.Core.Path.{◌≡◌, refl, sym, ap, subst, ◌∙◌}
 use Prim.Native.Nat.{◌+◌, ◌<◌}
 use native.Mathlib.Omega.{arith}
-use Rattle.integers.specs.declared.Order.{Order}
-use Rattle.integers.specs.declared.Order.TheVariants.{Lower, Same, Higher}
+use Rattle.std.specs.declared.cmp.Ordering.{Ordering}
+use Rattle.std.specs.declared.cmp.Ordering.TheVariants.{Less, Equal, Greater}
 use Rattle.values.specs.Value.{Value, Items, none, more, sizes, Before, Ascending}
 use Rattle.values.specs.Items.{join, snoc, in_order}
 use Rattle.values.proofs.Order.{same_equal, higher_flip}
@@ -15,7 +15,7 @@ use Rattle.operator_laws.proofs.Sets.{ascending_parts, ascending_between, passed
 use Rattle.set_operators.specs.Members.{least_on}
 
 -- us and xs are passed, vs and ws are left; then the least of those left, m, is passed too
-pub record Passes (us xs vs ws : Items) (o : Order) : Type 0 where
+pub record Passes (us xs vs ws : Items) (o : Ordering) : Type 0 where
   pub m : Value
   pub us' : Items
   pub vs' : Items
@@ -38,7 +38,7 @@ ascending_over : (us : Items) (v : Value) (vs : Items) → Ascending (join us (m
 ascending_over us v vs a = (ascending_parts (snoc us v) vs (subst Ascending (over us v vs) a)).0
 
 module _ (us xs : Items) where
-  on_left : (v : Value) (vs ws : Items) → Ascending (join us (more v vs)) → Ascending (join (unite us xs) (more v vs)) → Ascending (join (unite us xs) ws) → Before v ws → Passes us xs (more v vs) ws Lower
+  on_left : (v : Value) (vs ws : Items) → Ascending (join us (more v vs)) → Ascending (join (unite us xs) (more v vs)) → Ascending (join (unite us xs) ws) → Before v ws → Passes us xs (more v vs) ws Less
   on_left v vs ws a b c l =
       let d = ascending_over (unite us xs) v vs b in
       record {
@@ -56,7 +56,7 @@ module _ (us xs : Items) where
         right_above = ascending_between (unite us xs) v ws d c l;
       }
 
-  on_right : (w : Value) (vs ws : Items) → Ascending us → Ascending (join (unite us xs) vs) → Ascending (join (unite us xs) (more w ws)) → Before w vs → Passes us xs vs (more w ws) Higher
+  on_right : (w : Value) (vs ws : Items) → Ascending us → Ascending (join (unite us xs) vs) → Ascending (join (unite us xs) (more w ws)) → Before w vs → Passes us xs vs (more w ws) Greater
   on_right w vs ws a b c l =
       let d = ascending_over (unite us xs) w ws c in
       record {
@@ -74,7 +74,7 @@ module _ (us xs : Items) where
         right_above = subst Ascending (over (unite us xs) w ws) c;
       }
 
-  on_both : (v w : Value) (vs ws : Items) → v ≡ w → Ascending (join us (more v vs)) → Ascending (join (unite us xs) (more v vs)) → Ascending (join (unite us xs) (more w ws)) → Passes us xs (more v vs) (more w ws) Same
+  on_both : (v w : Value) (vs ws : Items) → v ≡ w → Ascending (join us (more v vs)) → Ascending (join (unite us xs) (more v vs)) → Ascending (join (unite us xs) (more w ws)) → Passes us xs (more v vs) (more w ws) Equal
   on_both v w vs ws e a b c =
       let f : Ascending (join (unite us xs) (more v ws)) = subst (λ (z : Value). Ascending (join (unite us xs) (more z ws))) (sym e) c in
       record {

@@ -20,11 +20,10 @@ use Rattle.values.proofs.Records.{integer_range}
 use Rattle.operators.specs.Gather.{up_from}
 use Rattle.operators.specs.Sets.{as_count, how_many, consecutive, range_of}
 use Rattle.operator_laws.proofs.Ranges.{sound_range}
-use Rattle.calling.specs.declared.Applied.{Applied}
-use Rattle.calling.specs.declared.Pair.{Pair}
-use Rattle.calling.specs.declared.Pair.TheVariants.{Integers}
+use Rattle.calling.specs.Applied.{Applied}
+use Rattle.std.specs.Prelude.{Ok}
 use Rattle.calling.specs.Applied.{Gives, OnTwo}
-use Rattle.calling.specs.Operands.{PairAt}
+use Rattle.calling.specs.Operands.{Pair, PairAt}
 use Rattle.calling.proofs.Pairs.{machine, pair_left, pair_right, pair_gives}
 use Rattle.gathering.specs.Consecutive.{CountingRoom}
 
@@ -104,7 +103,7 @@ counted_other (pos n) f e = record { signed = tt; fits = omega arith; exact = re
 counted_other (negsuc n) f e = never (sym e)
 
 -- ---- from two integers that were read
-module _ {s : List ℕ} {base : ℕ} {p : Pair} (read : PairAt s base p) {a b : ℤ} (e : p ≡ Integers a b) {n : ℕ} (h : n ≡ how_many (machine a) (machine b)) where
+module _ {s : List ℕ} {base : ℕ} {p : Pair} (read : PairAt s base p) {a b : ℤ} (e : p ≡ Ok (a, b)) {n : ℕ} (h : n ≡ how_many (machine a) (machine b)) where
   pub range_count : base + value_limit ≤ length s → CountingRoom s base (machine a) n
   range_count room =
       let f = integer_range (pair_left read e).fine in

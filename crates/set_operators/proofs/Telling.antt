@@ -17,7 +17,8 @@ use Rattle.operators.specs.Answer.{as_set}
 use Rattle.operators.specs.Gather.{every_item, is_kind}
 use Rattle.calling.specs.Scratch.{second}
 use Rattle.calling.proofs.Kinding.{the_kind, no_kind, needs_left, needs_right}
-use Rattle.set_operators.specs.Members.{AllOfKind}
+use Rattle.gathering.specs.Kinds.{AllOfKind}
+use Rattle.gathering.proofs.Testing.{every_kind}
 use Rattle.set_operators.specs.Operands.{IsOfKind, TwoSets}
 use Rattle.set_operators.proofs.Testing.{set_is, sets_parts}
 
@@ -68,14 +69,14 @@ pub record Family (s : List ℕ) (base end : ℕ) : Type 0 where
   pub low : base + 4 ≤ end
   pub high : end ≤ base + value_limit
 
-pub family : {s : List ℕ} {base n : ℕ} {a : Bool} → IsOfKind s base 3 a → a ≡ true → n ≡ word s base → {b : Bool} → AllOfKind s (base + 4) (base + n) 3 b → b ≡ true → Family s base (base + n)
+pub family : {s : List ℕ} {base n : ℕ} {a : Bool} → IsOfKind s base 3 a → a ≡ true → n ≡ word s base → {b : Bool} → AllOfKind 3 s (base + 4) (base + n) b → b ≡ true → Family s base (base + n)
 family k e q all t =
     let h = k.yes set refl e in
     let i = items_to q h.here in
     let x = holds h.here in
     let low = x.low in
     let high = x.high in
-    record { members = h.items; here = h.here; items = i; sets = sym (all set h.items refl i) ∙ t; low = omega arith; high = omega arith }
+    record { members = h.items; here = h.here; items = i; sets = sym (every_kind set h.items) ∙ sym (all h.items i) ∙ t; low = omega arith; high = omega arith }
 
 -- the first of them, and those after it
 pub record FirstOf (s : List ℕ) (base end : ℕ) (vs : Items) : Type 0 where

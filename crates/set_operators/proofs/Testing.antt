@@ -1,51 +1,19 @@
--- A test of all items from a place up to another, left at the first that fails; and the sets among them.
+-- The sets among items, and the tests of items that are made of them.
 use mathlib.Core.Path.{◌≡◌, refl, sym, ap, subst, ◌∙◌}
-use mathlib.Core.Bool.{Bool, true, false, ◌&&◌, and-eq-true_iff}
+use mathlib.Core.Bool.{Bool, true, and-eq-true_iff}
 use mathlib.Core.List.{List}
 use Prim.Native.Nat.{ℕ, ◌+◌, ◌≤◌, ◌<◌}
-use borrow.Author.Tests.{eq-eqb, ne_eqb}
 use lib.ListN.{length}
 use Rattle.prelude.proofs.Absurd.{never}
 use Rattle.integers.specs.Bytes.{word}
-use Rattle.values.specs.Value.{Kind, set, sequence, map, tuple, number, Value, boolean, integer, quote, collection, Items, more, kind_of, value_limit}
+use Rattle.values.specs.Value.{set, sequence, map, tuple, Value, boolean, integer, quote, collection, Items, more, value_limit}
 use Rattle.values.specs.Items.{is_member}
-use Rattle.values.specs.Place.{At, ItemsAt}
-use Rattle.values.specs.Contract.{KindAt}
+use Rattle.values.specs.Place.{At}
 use Rattle.values.proofs.Records.{one_value}
 use Rattle.collections.specs.Finding.{Contains}
 use Rattle.operators.specs.Gather.{every_item, items_in, is_kind}
-use Rattle.operator_laws.proofs.OfKind.{kind_test}
 use Rattle.set_operators.specs.Members.{HoldsSets}
-use Rattle.gathering.proofs.Walks.{Walk, items_start, walked_first, items_on, walked_end}
-
--- ---- a test of all items
-
-pub every_more : (q : Value → Bool) (v : Value) (vs : Items) {b : Bool} → q v ≡ b → every_item q (more v vs) ≡ b && every_item q vs
-unfolding every_item
-every_more q v vs e = ap (λ (b : Bool). b && every_item q vs) e
-
--- the answer from here on is the answer from the start on, for each of the tests that it may be
-abbrev pub Testing : {I : Type 0} → List ℕ → ℕ → ℕ → (I → Value → Bool) → ℕ → Type 0
-Testing {I} s from to q p = Walk s from to (λ (vs rest : Items). (i : I) → every_item (q i) vs ≡ every_item (q i) rest) p
-
-module _ {I : Type 0} {s : List ℕ} {from to : ℕ} (q : I → Value → Bool) where
-  pub test_start : Testing s from to q from
-  test_start = items_start (λ (vs rest : Items). (i : I) → every_item (q i) vs ≡ every_item (q i) rest) (λ vs i. refl)
-
-  module _ {p : ℕ} (w : Testing s from to q p) where
-    pub test_fails : p < to → (i : I) → ((v : Value) → At s p v → q i v ≡ false) → (vs : Items) → ItemsAt s from to vs → false ≡ every_item (q i) vs
-    test_fails lt i f vs h =
-        let y = walked_first lt (w vs h) in
-        sym (y.so i ∙ every_more (q i) y.first y.rest (f y.first y.first-at))
-
-    pub test_on : p < to → ((i : I) (v : Value) → At s p v → q i v ≡ true) → (n : ℕ) → n ≡ word s p → Testing s from to q (p + n)
-    test_on lt f n e vs h =
-        let y = walked_first lt (w vs h) in
-        items_on y n e (λ i. y.so i ∙ every_more (q i) y.first y.rest (f i y.first y.first-at))
-
-    pub test_end : to ≤ p → (i : I) → (vs : Items) → ItemsAt s from to vs → true ≡ every_item (q i) vs
-    unfolding every_item
-    test_end le i vs h = sym (walked_end le (w vs h) i)
+use Rattle.gathering.proofs.Walks.{Walk, items_start, walked_first, items_on}
 
 -- ---- sets
 
@@ -75,19 +43,6 @@ sets_on w lt n e vs h =
     items_on y n e (λ f. (sets_parts y.first y.rest (y.so f)).1)
 
 -- ---- the tests
-
--- kinds
-abbrev pub OfNumber : ℕ → Type 0
-OfNumber n = (k : Kind) × (n ≡ number k)
-
-abbrev pub of_kind : (n : ℕ) → OfNumber n → Value → Bool
-of_kind n i v = is_kind i.0 v
-
-pub kind_differs : {s : List ℕ} {p r n : ℕ} → KindAt s p r → (r ≡ n → ⊥) → (i : OfNumber n) (v : Value) → At s p v → of_kind n i v ≡ false
-kind_differs {n = n} h f i v a = kind_test i.0 v ∙ ne_eqb (number i.0) (kind_of v) (λ e. f (h.right v a ∙ sym e ∙ sym i.1))
-
-pub kind_agrees : {s : List ℕ} {p r n : ℕ} → KindAt s p r → r ≡ n → (i : OfNumber n) (v : Value) → At s p v → of_kind n i v ≡ true
-kind_agrees h e i v a = kind_test i.0 v ∙ eq-eqb (number i.0) (kind_of v) (sym i.1 ∙ sym e ∙ h.right v a)
 
 -- one value, in each of the sets
 abbrev pub ValueAt : List ℕ → ℕ → Type 0

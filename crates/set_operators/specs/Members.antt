@@ -1,12 +1,12 @@
 -- What going over items one by one asks and promises: tests of them all, choosing among them, and merging two sets.
 use Rattle.std.specs.Prelude.{◌≡◌, Bool, true, false, not, cond, List, ℕ, ◌+◌, ◌≤◌, length}
 use Rattle.integers.specs.Bytes.{word}
-use Rattle.integers.specs.declared.Order.{Order}
-use Rattle.integers.specs.declared.Order.TheVariants.{Lower, Higher}
-use Rattle.values.specs.Value.{Kind, set, sequence, number, Value, collection, Items, none, more, order, value_limit}
+use Rattle.std.specs.declared.cmp.Ordering.{Ordering}
+use Rattle.std.specs.declared.cmp.Ordering.TheVariants.{Less, Greater}
+use Rattle.values.specs.Value.{set, sequence, Value, collection, Items, none, more, order, value_limit}
 use Rattle.values.specs.Items.{is_member, snoc}
 use Rattle.values.specs.Place.{At, ItemsAt, Outside}
-use Rattle.collections.specs.declared.building.Added.{Added}
+use Rattle.collections.specs.Building.{Added}
 use Rattle.collections.specs.Finding.{HoldsKind}
 use Rattle.collections.specs.Building.{Room}
 use Rattle.operators.specs.Gather.{every_item, keep_items, items_in, is_kind}
@@ -20,10 +20,6 @@ pub record HoldsSets (s : List ℕ) (from to : ℕ) : Type 0 where
   pub items : Items
   pub here : ItemsAt s from to items
   pub sets : every_item (is_kind set) items ≡ true
-
--- r says whether all items from a place up to another are of the kind of this number.
-abbrev pub AllOfKind : List ℕ → ℕ → ℕ → ℕ → Bool → Type 0
-AllOfKind s from to n r = (k : Kind) (vs : Items) → n ≡ number k → ItemsAt s from to vs → r ≡ every_item (is_kind k) vs
 
 -- v is a member of each of these sets.
 abbrev pub in_all : Value → Items → Bool
@@ -73,14 +69,14 @@ pub record Chosen (s t : List ℕ) (x a b at : ℕ) (wanted : Bool) : Type 0 whe
 
 -- ---- merging
 
--- On which side the least member left is, of ascending members: Lower says the left, Higher the right, Same both. A side at its end has none.
-abbrev pub least_on : Items → Items → Order
-least_on vs none = Lower
-least_on none (more w ws) = Higher
+-- On which side the least member left is, of ascending members: Less says the left, Greater the right, Equal both. A side at its end has none.
+abbrev pub least_on : Items → Items → Ordering
+least_on vs none = Less
+least_on none (more w ws) = Greater
 least_on (more v vs) (more w ws) = order v w
 
 -- o says on which of two sides, each from a place up to its end, the least member left is.
-abbrev pub LeastOn : List ℕ → ℕ → ℕ → ℕ → ℕ → Order → Type 0
+abbrev pub LeastOn : List ℕ → ℕ → ℕ → ℕ → ℕ → Ordering → Type 0
 LeastOn s a a' b b' o = (vs ws : Items) → ItemsAt s a a' vs → ItemsAt s b b' ws → o ≡ least_on vs ws
 
 -- There is room at a place for the union of the sets at x and y, which stand below.

@@ -13,8 +13,7 @@ ghost use Rattle.calling.specs.Applied.{One, Two, OnOne, OnTwo};
 ghost use Rattle.set_operators.specs.Members.{AllIn};
 ghost use Rattle.set_operators.specs.Operands.{IsOfKind, TwoSets};
 
-use calling::{Applied, Pair};
-use collections::building::Added;
+use prelude::Refusal;
 use values::Value;
 
 // ---- kinds
@@ -33,7 +32,7 @@ fn two_sets(s: &[u8], base: usize) -> bool
     ensures { TwoSets s.now base result }
 {
     if is_of_kind(s, base, Value::SET) {
-        return is_of_kind(s, base + Applied::SECOND, Value::SET);
+        return is_of_kind(s, base + calling::SECOND, Value::SET);
     }
     false
 }
@@ -41,54 +40,50 @@ fn two_sets(s: &[u8], base: usize) -> bool
 // ---- one operand: 4 card, 5 dunion, 6 dinter
 
 // 4 card
-fn cardinality(s: &mut [u8], base: usize) -> Applied
+fn cardinality(s: &mut [u8], base: usize) -> Result<(), Refusal>
     requires { One s.old base }
     ensures { OnOne (unary 4) s.old s.new base result }
 {
     if !is_of_kind(s, base, Value::SET) {
-        return Applied::Refused(Applied::WRONG_KIND);
+        return Err(Refusal::WrongKind);
     }
     let n = collections::finding::count_of(s, base);
     values::put_integer(s, base, n as i32);
-    Applied::Done
+    Ok(())
 }
 
 // 5 dunion
-fn distributed_union(s: &mut [u8], base: usize) -> Applied
+fn distributed_union(s: &mut [u8], base: usize) -> Result<(), Refusal>
     requires { One s.old base }
     ensures { OnOne (unary 5) s.old s.new base result }
 {
     if !is_of_kind(s, base, Value::SET) {
-        return Applied::Refused(Applied::WRONG_KIND);
+        return Err(Refusal::WrongKind);
     }
     let end = base + values::length_of(s, base);
-    if !members::all_of_kind(s, base + Value::HEAD, end, Value::SET) {
-        return Applied::Refused(Applied::WRONG_KIND);
+    if !gathering::all_of_kind(s, base + Value::HEAD, end, Value::SET) {
+        return Err(Refusal::WrongKind);
     }
-    collections::building::put_empty(s, base + Applied::SECOND, Value::SET);
-    match members::insert_each(s, base + Value::HEAD, end, base + Applied::SECOND) {
-        Added::Full => Applied::Refused(Applied::TOO_LARGE),
-        Added::Done => {
-            values::copy_value(s, base + Applied::SECOND, base);
-            Applied::Done
-        }
-    }
+    collections::building::put_empty(s, base + calling::SECOND, Value::SET);
+    members::insert_each(s, base + Value::HEAD, end, base + calling::SECOND)?;
+    values::copy_value(s, base + calling::SECOND, base);
+    Ok(())
 }
 
 // 6 dinter
-fn distributed_intersection(s: &mut [u8], base: usize) -> Applied
+fn distributed_intersection(s: &mut [u8], base: usize) -> Result<(), Refusal>
     requires { One s.old base }
     ensures { OnOne (unary 6) s.old s.new base result }
 {
     if !is_of_kind(s, base, Value::SET) {
-        return Applied::Refused(Applied::WRONG_KIND);
+        return Err(Refusal::WrongKind);
     }
     let end = base + values::length_of(s, base);
-    if !members::all_of_kind(s, base + Value::HEAD, end, Value::SET) {
-        return Applied::Refused(Applied::WRONG_KIND);
+    if !gathering::all_of_kind(s, base + Value::HEAD, end, Value::SET) {
+        return Err(Refusal::WrongKind);
     }
     if end == base + Value::HEAD {
-        return Applied::Refused(Applied::NOT_THERE);
+        return Err(Refusal::NotThere);
     }
     let n = values::length_of(s, base + Value::HEAD);
     members::choose(
@@ -96,15 +91,15 @@ fn distributed_intersection(s: &mut [u8], base: usize) -> Applied
         base + Value::HEAD,
         base + Value::HEAD + n,
         end,
-        base + Applied::THIRD,
+        base + calling::THIRD,
         true,
     );
-    values::copy_value(s, base + Applied::THIRD, base);
-    Applied::Done
+    values::copy_value(s, base + calling::THIRD, base);
+    Ok(())
 }
 
 // The unary operators 4 to 6.
-pub fn unary_set(s: &mut [u8], base: usize, operator: usize) -> Applied
+pub fn unary_set(s: &mut [u8], base: usize, operator: usize) -> Result<(), Refusal>
     requires { One s.old base × (4 ≤ operator) × (operator ≤ 6) }
     ensures { OnOne (unary operator) s.old s.new base result }
 {
@@ -120,48 +115,44 @@ pub fn unary_set(s: &mut [u8], base: usize, operator: usize) -> Applied
 // ---- two operands: 17 in set, 18 not in set, 19 union, 20 inter, 21 difference, 22 subset, 23 psubset
 
 // 17 in set and 18 not in set: whether the left is a member of the right.
-fn membership(s: &mut [u8], base: usize, operator: usize) -> Applied
+fn membership(s: &mut [u8], base: usize, operator: usize) -> Result<(), Refusal>
     requires { Two s.old base × (17 ≤ operator) × (operator ≤ 18) }
     ensures { OnTwo (binary operator) s.old s.new base result }
 {
-    if !is_of_kind(s, base + Applied::SECOND, Value::SET) {
-        return Applied::Refused(Applied::WRONG_KIND);
+    if !is_of_kind(s, base + calling::SECOND, Value::SET) {
+        return Err(Refusal::WrongKind);
     }
-    let found = collections::finding::contains(s, base + Applied::SECOND, base);
+    let found = collections::finding::contains(s, base + calling::SECOND, base);
     calling::put_truth(s, base, found == (operator == tables::binary::IN_SET))
 }
 
 // 19 union: both sets merged.
-fn union(s: &mut [u8], base: usize) -> Applied
+fn union(s: &mut [u8], base: usize) -> Result<(), Refusal>
     requires { Two s.old base }
     ensures { OnTwo (binary 19) s.old s.new base result }
 {
     if !two_sets(s, base) {
-        return Applied::Refused(Applied::WRONG_KIND);
+        return Err(Refusal::WrongKind);
     }
-    match members::merge(s, base, base + Applied::SECOND, base + Applied::THIRD) {
-        Added::Full => Applied::Refused(Applied::TOO_LARGE),
-        Added::Done => {
-            values::copy_value(s, base + Applied::THIRD, base);
-            Applied::Done
-        }
-    }
+    members::merge(s, base, base + calling::SECOND, base + calling::THIRD)?;
+    values::copy_value(s, base + calling::THIRD, base);
+    Ok(())
 }
 
 // 20 inter and 21 difference: the members of the left that are in the right, or those that are not.
-fn selection(s: &mut [u8], base: usize, operator: usize) -> Applied
+fn selection(s: &mut [u8], base: usize, operator: usize) -> Result<(), Refusal>
     requires { Two s.old base × (20 ≤ operator) × (operator ≤ 21) }
     ensures { OnTwo (binary operator) s.old s.new base result }
 {
     if !two_sets(s, base) {
-        return Applied::Refused(Applied::WRONG_KIND);
+        return Err(Refusal::WrongKind);
     }
-    let right = base + Applied::SECOND;
+    let right = base + calling::SECOND;
     let n = values::length_of(s, right);
     let wanted = operator == tables::binary::INTER;
-    members::choose(s, base, right, right + n, base + Applied::THIRD, wanted);
-    values::copy_value(s, base + Applied::THIRD, base);
-    Applied::Done
+    members::choose(s, base, right, right + n, base + calling::THIRD, wanted);
+    values::copy_value(s, base + calling::THIRD, base);
+    Ok(())
 }
 
 // Whether all items from a place up to another are members of the set at a place.
@@ -181,24 +172,24 @@ fn all_in(s: &[u8], from: usize, to: usize, at: usize) -> bool
 }
 
 // 22 subset and 23 psubset. Equal sets are subsets of each other, so a proper subset is one that is not equal.
-fn inclusion(s: &mut [u8], base: usize, operator: usize) -> Applied
+fn inclusion(s: &mut [u8], base: usize, operator: usize) -> Result<(), Refusal>
     requires { Two s.old base × (22 ≤ operator) × (operator ≤ 23) }
     ensures { OnTwo (binary operator) s.old s.new base result }
 {
     if !two_sets(s, base) {
-        return Applied::Refused(Applied::WRONG_KIND);
+        return Err(Refusal::WrongKind);
     }
     let n = values::length_of(s, base);
-    let inside = all_in(s, base + Value::HEAD, base + n, base + Applied::SECOND);
+    let inside = all_in(s, base + Value::HEAD, base + n, base + calling::SECOND);
     if operator == tables::binary::SUBSET {
         return calling::put_truth(s, base, inside);
     }
-    let same = values::equal(s, base, base + Applied::SECOND);
+    let same = values::equal(s, base, base + calling::SECOND);
     calling::put_truth(s, base, inside != same)
 }
 
 // The binary operators 17 to 23.
-pub fn binary_set(s: &mut [u8], base: usize, operator: usize) -> Applied
+pub fn binary_set(s: &mut [u8], base: usize, operator: usize) -> Result<(), Refusal>
     requires { Two s.old base × (17 ≤ operator) × (operator ≤ 23) }
     ensures { OnTwo (binary operator) s.old s.new base result }
 {
@@ -228,13 +219,10 @@ fn how_many(from: i32, to: i32) -> usize
 }
 
 // The set of the integers from one to another.
-pub fn range(s: &mut [u8], base: usize) -> Applied
+pub fn range(s: &mut [u8], base: usize) -> Result<(), Refusal>
     requires { Two s.old base }
     ensures { OnTwo range_of s.old s.new base result }
 {
-    let read = calling::two_integers(s, base);
-    match read {
-        Pair::Integers(a, b) => gathering::counting(s, base, a, how_many(a, b)),
-        Pair::Others => Applied::Refused(Applied::WRONG_KIND),
-    }
+    let (a, b) = calling::two_integers(s, base)?;
+    gathering::counting(s, base, a, how_many(a, b))
 }

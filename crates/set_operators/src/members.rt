@@ -5,26 +5,11 @@ ghost use Rattle.values.specs.Place.{Holds, HoldsItems};
 ghost use Rattle.values.specs.Contract.{Copyable, Copied};
 ghost use Rattle.operators.specs.Gather.{flatten};
 ghost use Rattle.gathering.specs.Inserting.{Growing, InsertsAll};
-ghost use Rattle.set_operators.specs.Members.{HoldsSets, AllOfKind, InAll, Appendable, AppendsIf, Choice, Chosen, LeastOn, Merge, Merged};
+ghost use Rattle.set_operators.specs.Members.{HoldsSets, InAll, Appendable, AppendsIf, Choice, Chosen, LeastOn, Merge, Merged};
 
-use collections::building::Added;
-use integers::Order;
+use prelude::Refusal;
+use std::cmp::Ordering;
 use values::Value;
-
-// Whether all items from a place up to another are of a kind.
-pub fn all_of_kind(s: &[u8], from: usize, to: usize, kind: usize) -> bool
-    requires { HoldsItems s.now from to }
-    ensures { AllOfKind s.now from to kind result }
-{
-    let mut p = from;
-    while p < to {
-        if values::kind_of(s, p) != kind {
-            return false;
-        }
-        p += values::length_of(s, p);
-    }
-    true
-}
 
 // Whether the value at x is a member of each of the sets from a place up to another.
 pub fn in_all(s: &[u8], x: usize, from: usize, to: usize) -> bool
@@ -42,22 +27,17 @@ pub fn in_all(s: &[u8], x: usize, from: usize, to: usize) -> bool
 }
 
 // Every member of each of the sets from a place up to another goes into the set at a place.
-pub fn insert_each(s: &mut [u8], from: usize, to: usize, at: usize) -> Added
+pub fn insert_each(s: &mut [u8], from: usize, to: usize, at: usize) -> Result<(), Refusal>
     requires { HoldsSets s.old from to × Growing s.old from to at }
     ensures { InsertsAll flatten s.old s.new from to at result }
 {
     let mut p = from;
     while p < to {
         let n = values::length_of(s, p);
-        match gathering::insert_all(s, p + Value::HEAD, p + n, at) {
-            Added::Done => {}
-            Added::Full => {
-                return Added::Full;
-            }
-        }
+        gathering::insert_all(s, p + Value::HEAD, p + n, at)?;
         p += n;
     }
-    Added::Done
+    Ok(())
 }
 
 // The item at x goes to the end of the sequence at a place, if wanted.
@@ -66,7 +46,7 @@ fn append_if(s: &mut [u8], at: usize, x: usize, wanted: bool)
     ensures { AppendsIf s.old s.new at x wanted }
 {
     if wanted {
-        collections::building::append(s, at, x);
+        collections::building::append(s, at, x).unwrap();
     }
 }
 
@@ -88,17 +68,17 @@ pub fn choose(s: &mut [u8], x: usize, a: usize, b: usize, at: usize, wanted: boo
 
 // ---- merging
 
-// On which side the least member left is, each side from a place up to its end: Lower says the left, Higher the right, Same both.
+// On which side the least member left is, each side from a place up to its end: Less says the left, Greater the right, Equal both.
 // Two integers are compared without the general comparison.
-fn least_side(s: &[u8], a: usize, a_end: usize, b: usize, b_end: usize) -> Order
+fn least_side(s: &[u8], a: usize, a_end: usize, b: usize, b_end: usize) -> Ordering
     requires { HoldsItems s.now a a_end × HoldsItems s.now b b_end }
     ensures { LeastOn s.now a a_end b b_end result }
 {
     if b == b_end {
-        return Order::Lower;
+        return Ordering::Less;
     }
     if a == a_end {
-        return Order::Higher;
+        return Ordering::Greater;
     }
     if values::kind_of(s, a) == Value::INTEGER {
         if values::kind_of(s, b) == Value::INTEGER {
@@ -109,13 +89,13 @@ fn least_side(s: &[u8], a: usize, a_end: usize, b: usize, b_end: usize) -> Order
 }
 
 // One of three places, by an order.
-fn in_order(o: Order, lower: usize, same: usize, higher: usize) -> usize
+fn in_order(o: Ordering, lower: usize, same: usize, higher: usize) -> usize
     ensures { result ≡ in_order o lower same higher }
 {
     match o {
-        Order::Lower => lower,
-        Order::Same => same,
-        Order::Higher => higher,
+        Ordering::Less => lower,
+        Ordering::Equal => same,
+        Ordering::Greater => higher,
     }
 }
 
@@ -132,7 +112,7 @@ fn copy_member(s: &mut [u8], from: usize, to: usize) -> usize
 }
 
 // Builds at a place the union of the sets at x and y, in one pass over both: each turn passes the least member left.
-pub fn merge(s: &mut [u8], x: usize, y: usize, at: usize) -> Added
+pub fn merge(s: &mut [u8], x: usize, y: usize, at: usize) -> Result<(), Refusal>
     requires { Merge s.old x y at }
     ensures { Merged s.old s.new x y at result }
 {
@@ -145,7 +125,7 @@ pub fn merge(s: &mut [u8], x: usize, y: usize, at: usize) -> Added
         let side = least_side(s, a, a_end, b, b_end);
         let least = in_order(side, a, a, b);
         if at + Value::LIMIT < p + values::length_of(s, least) {
-            return Added::Full;
+            return Err(Refusal::TooLarge);
         }
         let next = copy_member(s, least, p);
         let n = next - p;
@@ -156,5 +136,5 @@ pub fn merge(s: &mut [u8], x: usize, y: usize, at: usize) -> Added
         p = next;
     }
     values::put_head(s, at, p - at, Value::SET);
-    Added::Done
+    Ok(())
 }

@@ -6,23 +6,24 @@ use Prim.Native.Nat.{◌+◌}
 use native.Mathlib.Omega.{arith}
 use Rattle.prelude.proofs.Absurd.{impossible}
 use Rattle.prelude.proofs.Truth.{cond-true, cond-false}
-use Rattle.integers.specs.declared.Order.TheVariants.{Lower, Same, Higher}
+use Rattle.std.specs.declared.cmp.Ordering.TheVariants.{Less, Equal, Greater}
+use Rattle.std.specs.Ordering.{is_eq}
 use Rattle.values.specs.Value.{Value, Items, none, more, every_other, keys, size, sizes, order, Before, Ascending, PairedFrom, Paired, Sound, SoundItems}
-use Rattle.values.specs.Items.{is_same, same, is_member, insert, lookup, enter}
+use Rattle.values.specs.Items.{same, is_member, insert, lookup, enter}
 use Rattle.values.proofs.Order.{same_equal, order_refl, higher_flip, same_true}
 use Rattle.values.proofs.Members.{lower_apart, higher_apart, before_first, insert_lower, insert_same, insert_higher, by_order, ascending_insert}
 
 -- ---- entries by their first
 
-pub enter_lower : (k v l : Value) (ws : Items) → order k l ≡ Lower → enter k v (more l ws) ≡ more k (more v (more l ws))
+pub enter_lower : (k v l : Value) (ws : Items) → order k l ≡ Less → enter k v (more l ws) ≡ more k (more v (more l ws))
 unfolding enter
 enter_lower k v l ws e = rw e
 
-pub enter_same : (k v l w : Value) (vs : Items) → order k l ≡ Same → enter k v (more l (more w vs)) ≡ more l (more v vs)
+pub enter_same : (k v l w : Value) (vs : Items) → order k l ≡ Equal → enter k v (more l (more w vs)) ≡ more l (more v vs)
 unfolding enter
 enter_same k v l w vs e = rw e
 
-pub enter_higher : (k v l w : Value) (vs : Items) → order k l ≡ Higher → enter k v (more l (more w vs)) ≡ more l (more w (enter k v vs))
+pub enter_higher : (k v l w : Value) (vs : Items) → order k l ≡ Greater → enter k v (more l (more w vs)) ≡ more l (more w (enter k v vs))
 unfolding enter
 enter_higher k v l w vs e = rw e
 
@@ -132,15 +133,15 @@ pub lookup-none : (k : Value) → lookup k none ≡ absent
 unfolding lookup
 lookup-none k = refl
 
-pub lookup_here : (k l w : Value) (vs : Items) → order k l ≡ Same → lookup k (more l (more w vs)) ≡ some w
+pub lookup_here : (k l w : Value) (vs : Items) → order k l ≡ Equal → lookup k (more l (more w vs)) ≡ some w
 unfolding lookup
-lookup_here k l w vs o = cond-true (same k l) (some w) (lookup k vs) (ap is_same o)
+lookup_here k l w vs o = cond-true (same k l) (some w) (lookup k vs) (ap is_eq o)
 
-pub lookup_on : (k l w : Value) (vs : Items) → order k l ≡ Higher → lookup k (more l (more w vs)) ≡ lookup k vs
+pub lookup_on : (k l w : Value) (vs : Items) → order k l ≡ Greater → lookup k (more l (more w vs)) ≡ lookup k vs
 unfolding lookup
 lookup_on k l w vs o = cond-false (same k l) (some w) (lookup k vs) (higher_apart k l o)
 
-pub lookup_before : (k l w : Value) (vs : Items) → Paired vs → Before l (keys vs) → order k l ≡ Lower → lookup k (more l (more w vs)) ≡ absent
+pub lookup_before : (k l w : Value) (vs : Items) → Paired vs → Before l (keys vs) → order k l ≡ Less → lookup k (more l (more w vs)) ≡ absent
 unfolding every_other PairedFrom
 lookup_before k l w vs p b o = before_nothing k (more l (more w vs)) p (before_first k l (keys vs) o b)
 

@@ -7,7 +7,7 @@ use mathlib.Core.Option.{some}
 use Rattle.prelude.specs.Membership.{In}
 use Rattle.prelude.proofs.Absurd.{impossible}
 use Rattle.prelude.proofs.Truth.{by_test, cond-true, cond-false}
-use Rattle.integers.specs.declared.Order.TheVariants.{Lower, Same, Higher}
+use Rattle.std.specs.declared.cmp.Ordering.TheVariants.{Less, Equal, Greater}
 use Rattle.values.specs.Value.{map, Value, Items, more, every_other, keys, mapped, order, Before, Ascending, PairedFrom, Paired, Shaped}
 use Rattle.values.specs.Items.{same, lookup, enter}
 use Rattle.values.specs.Entries.{Entry, entry, flat, keys_of, values_of, Rising, value_at, put}
@@ -65,7 +65,7 @@ unfolding flat value_at lookup
 lookup_flat k [] = refl
 lookup_flat k (e ∷ es) = ap (cond (same k e.key) (some e.value)) (lookup_flat k es)
 
-before_in : (u : Value) (es : List Entry) (f : Entry) → Before u (keys_of es) → In f es → order u f.key ≡ Lower
+before_in : (u : Value) (es : List Entry) (f : Entry) → Before u (keys_of es) → In f es → order u f.key ≡ Less
 unfolding keys_of Before
 before_in u [] f b i = absurd i
 before_in u (e ∷ es) f b (inl q) = ap (λ (g : Entry). order u g.key) q ∙ b.0
@@ -90,15 +90,15 @@ in_at k v (e ∷ es) r (inr i) =
 
 -- ---- an entry put in
 
-put_lower : (e f : Entry) (fs : List Entry) → order e.key f.key ≡ Lower → put e (f ∷ fs) ≡ e ∷ f ∷ fs
+put_lower : (e f : Entry) (fs : List Entry) → order e.key f.key ≡ Less → put e (f ∷ fs) ≡ e ∷ f ∷ fs
 unfolding put
 put_lower e f fs o = rw o
 
-put_same : (e f : Entry) (fs : List Entry) → order e.key f.key ≡ Same → put e (f ∷ fs) ≡ e ∷ fs
+put_same : (e f : Entry) (fs : List Entry) → order e.key f.key ≡ Equal → put e (f ∷ fs) ≡ e ∷ fs
 unfolding put
 put_same e f fs o = rw o
 
-put_higher : (e f : Entry) (fs : List Entry) → order e.key f.key ≡ Higher → put e (f ∷ fs) ≡ f ∷ put e fs
+put_higher : (e f : Entry) (fs : List Entry) → order e.key f.key ≡ Greater → put e (f ∷ fs) ≡ f ∷ put e fs
 unfolding put
 put_higher e f fs o = rw o
 

@@ -4,30 +4,31 @@ use mathlib.Core.Bool.{Bool, true, false, cond}
 use Prim.Native.Nat.{suc, ◌+◌, ◌≤◌}
 use native.Mathlib.Omega.{arith}
 use Rattle.prelude.proofs.Truth.{cond-true, cond-false}
-use Rattle.integers.specs.declared.Order.{Order}
-use Rattle.integers.specs.declared.Order.TheVariants.{Lower, Same, Higher}
+use Rattle.std.specs.declared.cmp.Ordering.{Ordering}
+use Rattle.std.specs.declared.cmp.Ordering.TheVariants.{Less, Equal, Greater}
+use Rattle.std.specs.Ordering.{is_eq}
 use Rattle.values.specs.Value.{Value, Items, none, more, count, size, sizes, order, Before, Ascending, Sound, SoundItems}
-use Rattle.values.specs.Items.{is_same, same, is_member, insert}
+use Rattle.values.specs.Items.{same, is_member, insert}
 use Rattle.values.proofs.Order.{order_lower, same_equal, higher_flip, same_true, true_same}
 
 -- ---- the order and the same
 
-pub lower_apart : (v w : Value) → order v w ≡ Lower → same v w ≡ false
-lower_apart v w e = ap is_same e
+pub lower_apart : (v w : Value) → order v w ≡ Less → same v w ≡ false
+lower_apart v w e = ap is_eq e
 
-pub higher_apart : (v w : Value) → order v w ≡ Higher → same v w ≡ false
-higher_apart v w e = ap is_same e
+pub higher_apart : (v w : Value) → order v w ≡ Greater → same v w ≡ false
+higher_apart v w e = ap is_eq e
 
 -- ---- before and ascending
 
 -- What is lower than an item is lower than all that this item is before.
-before_lower : (u v : Value) (vs : Items) → order u v ≡ Lower → Before v vs → Before u vs
+before_lower : (u v : Value) (vs : Items) → order u v ≡ Less → Before v vs → Before u vs
 unfolding Before
 before_lower u v none e b = tt
 before_lower u v (more w ws) e b = (order_lower u v w e b.0, before_lower u v ws e b.1)
 
 -- What is lower than the first of ascending items is before them all.
-pub before_first : (v w : Value) (ws : Items) → order v w ≡ Lower → Before w ws → Before v (more w ws)
+pub before_first : (v w : Value) (ws : Items) → order v w ≡ Less → Before w ws → Before v (more w ws)
 unfolding Before
 before_first v w ws e b = (e, before_lower v w ws e b)
 
@@ -39,26 +40,26 @@ before_apart v (more w ws) b = cond-false (same v w) true (is_member v ws) (lowe
 
 -- ---- insertion by its three cases
 
-pub insert_lower : (v w : Value) (ws : Items) → order v w ≡ Lower → insert v (more w ws) ≡ more v (more w ws)
+pub insert_lower : (v w : Value) (ws : Items) → order v w ≡ Less → insert v (more w ws) ≡ more v (more w ws)
 unfolding insert
 insert_lower v w ws e = rw e
 
-pub insert_same : (v w : Value) (ws : Items) → order v w ≡ Same → insert v (more w ws) ≡ more w ws
+pub insert_same : (v w : Value) (ws : Items) → order v w ≡ Equal → insert v (more w ws) ≡ more w ws
 unfolding insert
 insert_same v w ws e = rw e
 
-pub insert_higher : (v w : Value) (ws : Items) → order v w ≡ Higher → insert v (more w ws) ≡ more w (insert v ws)
+pub insert_higher : (v w : Value) (ws : Items) → order v w ≡ Greater → insert v (more w ws) ≡ more w (insert v ws)
 unfolding insert
 insert_higher v w ws e = rw e
 
 -- A proof by the three cases of the order.
-pub by_order : {P : Type 0} (v w : Value) → (order v w ≡ Lower → P) → (order v w ≡ Same → P) → (order v w ≡ Higher → P) → P
+pub by_order : {P : Type 0} (v w : Value) → (order v w ≡ Less → P) → (order v w ≡ Equal → P) → (order v w ≡ Greater → P) → P
 by_order {P} v w f g h = go (order v w) refl
   where
-    go : (o : Order) → order v w ≡ o → P
-    go Lower e = f e
-    go Same e = g e
-    go Higher e = h e
+    go : (o : Ordering) → order v w ≡ o → P
+    go Less e = f e
+    go Equal e = g e
+    go Greater e = h e
 
 -- The first item is a member.
 pub member_here : (v : Value) (vs : Items) → is_member v (more v vs) ≡ true
@@ -67,7 +68,7 @@ member_here v vs = cond-true (same v v) true (is_member v vs) (true_same {v = v}
 
 -- ---- what insertion keeps
 
-before_insert : (u v : Value) (vs : Items) → order u v ≡ Lower → Before u vs → Before u (insert v vs)
+before_insert : (u v : Value) (vs : Items) → order u v ≡ Less → Before u vs → Before u (insert v vs)
 unfolding Before insert
 before_insert u v none e b = (e, tt)
 before_insert u v (more w ws) e b =
@@ -125,14 +126,14 @@ pub sizes_insert : (v : Value) (vs : Items) → is_member v vs ≡ false → siz
 unfolding is_member insert size
 sizes_insert v none e = omega arith
 sizes_insert v (more w ws) e =
-    by_order v w (λ o. ap sizes (insert_lower v w ws o)) (λ o. let z = ap is_same o in cc)
+    by_order v w (λ o. ap sizes (insert_lower v w ws o)) (λ o. let z = ap is_eq o in cc)
     (λ o. let f = sizes_insert v ws (sym (cond-false (same v w) true (is_member v ws) (higher_apart v w o)) ∙ e) in let g = ap sizes (insert_higher v w ws o) in omega arith)
 
 pub count_insert : (v : Value) (vs : Items) → is_member v vs ≡ false → count (insert v vs) ≡ suc (count vs)
 unfolding is_member insert count
 count_insert v none e = refl
 count_insert v (more w ws) e =
-    by_order v w (λ o. ap count (insert_lower v w ws o)) (λ o. let z = ap is_same o in cc)
+    by_order v w (λ o. ap count (insert_lower v w ws o)) (λ o. let z = ap is_eq o in cc)
     (λ o. let f = count_insert v ws (sym (cond-false (same v w) true (is_member v ws) (higher_apart v w o)) ∙ e) in let g = ap count (insert_higher v w ws o) in omega arith)
 
 -- Insertion never makes the items shorter.

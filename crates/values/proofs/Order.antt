@@ -7,29 +7,30 @@ use Prim.Native.Nat.{ℕ, ◌≤◌}
 use native.Mathlib.Omega.{arith}
 use lib.Dec.{eqb}
 use Rattle.prelude.proofs.Absurd.{impossible}
-use Rattle.integers.specs.declared.Order.{Order}
-use Rattle.integers.specs.declared.Order.TheVariants.{Lower, Same, Higher}
+use Rattle.std.specs.declared.cmp.Ordering.{Ordering}
+use Rattle.std.specs.declared.cmp.Ordering.TheVariants.{Less, Equal, Greater}
+use Rattle.std.specs.Ordering.{is_eq}
 use Rattle.values.specs.Value.{Kind, set, sequence, map, tuple, Value, boolean, integer, quote, collection, Items, none, more, number, kind_of, byte_of, after, within, order_items, order}
 use Rattle.integers.specs.Order.{order_ℕ}
 use Rattle.integers.proofs.Ordered.{flip, lower_lt, lt_lower, same_eq, flip_order, same_eq_z, flip_order_z, lower_trans}
-use Rattle.values.specs.Items.{is_same, same}
+use Rattle.values.specs.Items.{same}
 
 -- ---- one after another
 
-pub after_same : (o p : Order) → after o p ≡ Same → (o ≡ Same) × (p ≡ Same)
-after_same Lower p e = (cc, cc)
-after_same Same p e = (refl, e)
-after_same Higher p e = (cc, cc)
+pub after_same : (o p : Ordering) → after o p ≡ Equal → (o ≡ Equal) × (p ≡ Equal)
+after_same Less p e = (cc, cc)
+after_same Equal p e = (refl, e)
+after_same Greater p e = (cc, cc)
 
-pub after_lower : (o p : Order) → after o p ≡ Lower → (o ≡ Lower) ⊎ ((o ≡ Same) × (p ≡ Lower))
-after_lower Lower p e = inl refl
-after_lower Same p e = inr (refl, e)
-after_lower Higher p e = inl (cc)
+pub after_lower : (o p : Ordering) → after o p ≡ Less → (o ≡ Less) ⊎ ((o ≡ Equal) × (p ≡ Less))
+after_lower Less p e = inl refl
+after_lower Equal p e = inr (refl, e)
+after_lower Greater p e = inl (cc)
 
-pub after_flip : (o p : Order) → after (flip o) (flip p) ≡ flip (after o p)
-after_flip Lower p = refl
-after_flip Same p = refl
-after_flip Higher p = refl
+pub after_flip : (o p : Ordering) → after (flip o) (flip p) ≡ flip (after o p)
+after_flip Less p = refl
+after_flip Equal p = refl
+after_flip Greater p = refl
 
 -- ---- the same is equal
 
@@ -68,7 +69,7 @@ byte_of_inj true true e = refl
 mutual
   unfolding within
 
-  within_same : (v w : Value) → kind_of v ≡ kind_of w → within v w ≡ Same → v ≡ w
+  within_same : (v w : Value) → kind_of v ≡ kind_of w → within v w ≡ Equal → v ≡ w
   within_same (boolean a) (boolean b) k e = ap boolean (byte_of_inj a b (same_eq (byte_of a) (byte_of b) e))
   within_same (boolean a) (integer b) k e = let z : ⊥ = omega arith in absurd z
   within_same (boolean a) (quote b) k e = let z : ⊥ = omega arith in absurd z
@@ -86,7 +87,7 @@ mutual
   within_same (collection h a) (quote b) k e = let z : ⊥ = omega (arith, number_high h) in absurd z
   within_same (collection h a) (collection l b) k e = ap₂ collection (number_inj h l k) (items_same a b e)
 
-  items_same : (vs ws : Items) → order_items vs ws ≡ Same → vs ≡ ws
+  items_same : (vs ws : Items) → order_items vs ws ≡ Equal → vs ≡ ws
   items_same none none e = refl
   items_same none (more w ws) e = cc
   items_same (more v vs) none e = cc
@@ -95,8 +96,8 @@ mutual
       let g = after_same (order_ℕ (kind_of v) (kind_of w)) (within v w) h.0 in
       ap₂ more (within_same v w (same_eq (kind_of v) (kind_of w) g.0) g.1) (items_same vs ws h.1)
 
--- THEOREM: two values of which the order says Same are equal
-pub same_equal : (v w : Value) → order v w ≡ Same → v ≡ w
+-- THEOREM: two values of which the order says Equal are equal
+pub same_equal : (v w : Value) → order v w ≡ Equal → v ≡ w
 same_equal v w e =
     let g = after_same (order_ℕ (kind_of v) (kind_of w)) (within v w) e in
     within_same v w (same_eq (kind_of v) (kind_of w) g.0) g.1
@@ -142,25 +143,25 @@ order_flip v w =
 -- ---- lower is transitive
 
 -- a head and a rest, each of which is transitive, and whose same is equal: the head and then the rest is transitive
-module _ {A B : Type 0} (f : A → A → Order) (g : B → B → Order) where
-  chain : (a b c : A) (x y z : B) → (f a b ≡ Lower → f b c ≡ Lower → f a c ≡ Lower)
-      → (f a b ≡ Same → a ≡ b) → (f b c ≡ Same → b ≡ c) → (g x y ≡ Lower → g y z ≡ Lower → g x z ≡ Lower)
-      → after (f a b) (g x y) ≡ Lower → after (f b c) (g y z) ≡ Lower → after (f a c) (g x z) ≡ Lower
+module _ {A B : Type 0} (f : A → A → Ordering) (g : B → B → Ordering) where
+  chain : (a b c : A) (x y z : B) → (f a b ≡ Less → f b c ≡ Less → f a c ≡ Less)
+      → (f a b ≡ Equal → a ≡ b) → (f b c ≡ Equal → b ≡ c) → (g x y ≡ Less → g y z ≡ Less → g x z ≡ Less)
+      → after (f a b) (g x y) ≡ Less → after (f b c) (g y z) ≡ Less → after (f a c) (g x z) ≡ Less
   chain a b c x y z t eq₁ eq₂ u p q = go (after_lower (f a b) (g x y) p) (after_lower (f b c) (g y z) q)
     where
-      go : (f a b ≡ Lower) ⊎ ((f a b ≡ Same) × (g x y ≡ Lower)) → (f b c ≡ Lower) ⊎ ((f b c ≡ Same) × (g y z ≡ Lower)) → after (f a c) (g x z) ≡ Lower
+      go : (f a b ≡ Less) ⊎ ((f a b ≡ Equal) × (g x y ≡ Less)) → (f b c ≡ Less) ⊎ ((f b c ≡ Equal) × (g y z ≡ Less)) → after (f a c) (g x z) ≡ Less
       go (inl l) (inl m) = rw (t l m)
-      go (inl l) (inr m) = let e : f a c ≡ Lower = rw (eq₂ m.0) at l in rw e
-      go (inr l) (inl m) = let e : f a c ≡ Lower = rw (eq₁ l.0) m in rw e
-      go (inr l) (inr m) = let e : f a c ≡ Same = rw (eq₁ l.0) m.0 in rw e (u l.1 m.1)
+      go (inl l) (inr m) = let e : f a c ≡ Less = rw (eq₂ m.0) at l in rw e
+      go (inr l) (inl m) = let e : f a c ≡ Less = rw (eq₁ l.0) m in rw e
+      go (inr l) (inr m) = let e : f a c ≡ Equal = rw (eq₁ l.0) m.0 in rw e (u l.1 m.1)
 
-lower_ℕ : (a b c : ℕ) → order_ℕ a b ≡ Lower → order_ℕ b c ≡ Lower → order_ℕ a c ≡ Lower
+lower_ℕ : (a b c : ℕ) → order_ℕ a b ≡ Less → order_ℕ b c ≡ Less → order_ℕ a c ≡ Less
 lower_ℕ a b c p q = lt_lower a c (omega (arith, lower_lt a b p, lower_lt b c q))
 
 mutual
   unfolding within
 
-  within_lower : (u v w : Value) → within u v ≡ Lower → within v w ≡ Lower → within u w ≡ Lower
+  within_lower : (u v w : Value) → within u v ≡ Less → within v w ≡ Less → within u w ≡ Less
   within_lower (boolean a) (boolean b) (boolean c) p q = lower_ℕ (byte_of a) (byte_of b) (byte_of c) p q
   within_lower (boolean a) (boolean b) (integer c) p q = q
   within_lower (boolean a) (boolean b) (quote c) p q = q
@@ -190,7 +191,7 @@ mutual
   within_lower (collection h a) (collection l b) (quote c) p q = q
   within_lower (collection h a) (collection l b) (collection m c) p q = items_lower a b c p q
 
-  items_lower : (us vs ws : Items) → order_items us vs ≡ Lower → order_items vs ws ≡ Lower → order_items us ws ≡ Lower
+  items_lower : (us vs ws : Items) → order_items us vs ≡ Less → order_items vs ws ≡ Less → order_items us ws ≡ Less
   items_lower none none ws p q = cc
   items_lower none (more v vs) none p q = cc
   items_lower none (more v vs) (more w ws) p q = refl
@@ -203,73 +204,73 @@ mutual
       (λ p q. items_lower us vs ws p q) p q
 
 -- THEOREM: lower is transitive
-pub order_lower : (u v w : Value) → order u v ≡ Lower → order v w ≡ Lower → order u w ≡ Lower
+pub order_lower : (u v w : Value) → order u v ≡ Less → order v w ≡ Less → order u w ≡ Less
 order_lower u v w =
     chain order_ℕ within (kind_of u) (kind_of v) (kind_of w) u v w (lower_ℕ (kind_of u) (kind_of v) (kind_of w)) (same_eq (kind_of u) (kind_of v)) (same_eq (kind_of v) (kind_of w)) (within_lower u v w)
 
 -- ---- a value is the same as itself
 
-pub flip_same : (o : Order) → o ≡ flip o → o ≡ Same
-flip_same Lower e = cc
-flip_same Same e = refl
-flip_same Higher e = cc
+pub flip_same : (o : Ordering) → o ≡ flip o → o ≡ Equal
+flip_same Less e = cc
+flip_same Equal e = refl
+flip_same Greater e = cc
 
-pub order_refl : (v : Value) → order v v ≡ Same
+pub order_refl : (v : Value) → order v v ≡ Equal
 order_refl v = flip_same (order v v) (order_flip v v)
 
-pub items_refl : (vs : Items) → order_items vs vs ≡ Same
+pub items_refl : (vs : Items) → order_items vs vs ≡ Equal
 items_refl vs = flip_same (order_items vs vs) (items_flip vs vs)
 
-equal_same : {v w : Value} → v ≡ w → order v w ≡ Same
+equal_same : {v w : Value} → v ≡ w → order v w ≡ Equal
 equal_same {v} {w} e = ap (λ (x : Value). order x w) e ∙ order_refl w
 
 -- ---- strict and total
 
 -- no answer is two answers
-pub lower_same : {X : Type 0} {o : Order} → o ≡ Lower → o ≡ Same → X
+pub lower_same : {X : Type 0} {o : Ordering} → o ≡ Less → o ≡ Equal → X
 lower_same p q = impossible cc
 
-pub lower_higher : {X : Type 0} {o : Order} → o ≡ Lower → o ≡ Higher → X
+pub lower_higher : {X : Type 0} {o : Ordering} → o ≡ Less → o ≡ Greater → X
 lower_higher p q = impossible cc
 
 -- THEOREM: lower is irreflexive
-pub irreflexive : (v : Value) → order v v ≡ Lower → ⊥
+pub irreflexive : (v : Value) → order v v ≡ Less → ⊥
 irreflexive v e = lower_same e (order_refl v)
 
 -- lower one way is higher the other way
-pub lower_flip : (v w : Value) → order v w ≡ Lower → order w v ≡ Higher
+pub lower_flip : (v w : Value) → order v w ≡ Less → order w v ≡ Greater
 lower_flip v w e = order_flip v w ∙ ap flip e
 
-pub higher_flip : (v w : Value) → order v w ≡ Higher → order w v ≡ Lower
+pub higher_flip : (v w : Value) → order v w ≡ Greater → order w v ≡ Less
 higher_flip v w e = order_flip v w ∙ ap flip e
 
 -- THEOREM: lower is asymmetric
-pub asymmetric : (v w : Value) → order v w ≡ Lower → order w v ≡ Lower → ⊥
+pub asymmetric : (v w : Value) → order v w ≡ Less → order w v ≡ Less → ⊥
 asymmetric v w p q = lower_higher q (lower_flip v w p)
 
 -- THEOREM: of any two values the first is lower, or they are equal, or the second is lower. (By `lower_same`, `irreflexive` and
 -- `asymmetric` no two of these hold.)
-trichotomy : (v w : Value) → (order v w ≡ Lower) ⊎ ((v ≡ w) ⊎ (order w v ≡ Lower))
+trichotomy : (v w : Value) → (order v w ≡ Less) ⊎ ((v ≡ w) ⊎ (order w v ≡ Less))
 trichotomy v w = go (order v w) refl
   where
-    go : (o : Order) → order v w ≡ o → (order v w ≡ Lower) ⊎ ((v ≡ w) ⊎ (order w v ≡ Lower))
-    go Lower e = inl e
-    go Same e = inr (inl (same_equal v w e))
-    go Higher e = inr (inr (higher_flip v w e))
+    go : (o : Ordering) → order v w ≡ o → (order v w ≡ Less) ⊎ ((v ≡ w) ⊎ (order w v ≡ Less))
+    go Less e = inl e
+    go Equal e = inr (inl (same_equal v w e))
+    go Greater e = inr (inr (higher_flip v w e))
 
 -- ---- equality as a test
 
-is_same_lem : (o : Order) → is_same o ≡ true → o ≡ Same
-is_same_lem Lower e = cc
-is_same_lem Same e = refl
-is_same_lem Higher e = cc
+is_eq_lem : (o : Ordering) → is_eq o ≡ true → o ≡ Equal
+is_eq_lem Less e = cc
+is_eq_lem Equal e = refl
+is_eq_lem Greater e = cc
 
 -- THEOREM: the test of equality is true exactly of equal values
 pub same_true : (v w : Value) → same v w ≡ true → v ≡ w
-same_true v w e = same_equal v w (is_same_lem (order v w) e)
+same_true v w e = same_equal v w (is_eq_lem (order v w) e)
 
 pub true_same : {v w : Value} → v ≡ w → same v w ≡ true
-true_same e = ap is_same (equal_same e)
+true_same e = ap is_eq (equal_same e)
 
 pub false_same : (v w : Value) → (v ≡ w → ⊥) → same v w ≡ false
 false_same v w f = go (same v w) refl
@@ -278,10 +279,10 @@ false_same v w f = go (same v w) refl
     go true e = absurd (f (same_true v w e))
     go false e = e
 
-flip_is : (o : Order) → is_same (flip o) ≡ is_same o
-flip_is Lower = refl
-flip_is Same = refl
-flip_is Higher = refl
+flip_is : (o : Ordering) → is_eq (flip o) ≡ is_eq o
+flip_is Less = refl
+flip_is Equal = refl
+flip_is Greater = refl
 
 pub same_flip : (v w : Value) → same w v ≡ same v w
-same_flip v w = ap is_same (order_flip v w) ∙ flip_is (order v w)
+same_flip v w = ap is_eq (order_flip v w) ∙ flip_is (order v w)

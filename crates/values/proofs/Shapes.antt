@@ -1,16 +1,18 @@
 -- The shape of items that stand between two places, told from the first of them on.
-use mathlib.Core.Path.{◌≡◌, sym, ap, subst, ◌∙◌}
+use mathlib.Core.Path.{◌≡◌, refl, sym, ap, subst, ◌∙◌}
 use mathlib.Core.Bool.{Bool, true, false}
 use mathlib.Core.List.{List}
 use Prim.Native.Nat.{ℕ, suc, ◌+◌, ◌≤◌, ◌<◌}
 use native.Mathlib.Omega.{arith}
 use lib.Dec.{leb}
-use Rattle.integers.specs.declared.Order.{Order}
-use Rattle.integers.specs.declared.Order.TheVariants.{Lower, Same, Higher}
+use Rattle.std.specs.declared.cmp.Ordering.{Ordering}
+use Rattle.std.specs.declared.cmp.Ordering.TheVariants.{Less, Equal, Greater}
+use Rattle.std.specs.Ordering.{is_lt}
+use Rattle.prelude.proofs.Absurd.{never}
 use Rattle.values.specs.Value.{Kind, set, sequence, map, tuple, number, Value, Items, more, count, every_other, order, Before, Ascending, PairedFrom, Shaped, value_limit}
 use Rattle.values.specs.Place.{At, ItemsAt, HoldsItems}
 use Rattle.values.specs.Contract.{Length, Ordered}
-use Rattle.values.proofs.Order.{number_inj, lower_same, lower_higher}
+use Rattle.values.proofs.Order.{number_inj}
 use Rattle.values.proofs.Encoding.{count_sizes}
 use Rattle.values.proofs.Records.{items_none, uncons_of}
 use Rattle.values.proofs.Members.{before_first}
@@ -48,11 +50,13 @@ rest_inside f l h = (starts f l h.1).inside
 
 -- ---- strictly ascending
 
-pub same_not : {o : Order} → o ≡ Same → o ≡ Lower → ⊥
-same_not e f = lower_same f e
+pub lower_is : {o : Ordering} → is_lt o ≡ true → o ≡ Less
+lower_is {o = Less} e = refl
+lower_is {o = Equal} e = never e
+lower_is {o = Greater} e = never e
 
-pub higher_not : {o : Order} → o ≡ Higher → o ≡ Lower → ⊥
-higher_not e f = lower_higher f e
+pub not_lower : {o : Ordering} → is_lt o ≡ false → o ≡ Less → ⊥
+not_lower e f = never (sym e ∙ ap is_lt f)
 
 pub ascending-none : {s : List ℕ} {from to : ℕ} → from ≡ to → TellsItems Ascending s from to true
 unfolding Ascending
@@ -64,19 +68,19 @@ ascending_one f l e vs h =
     let y = starts f l h in
     tells_true (subst Ascending (sym (y.is ∙ ap (more y.first) (items_none (omega arith) y.rest))) (tt, tt))
 
-module _ {s : List ℕ} {from to n : ℕ} (f : from ≡ to → ⊥) (l : Length s from n) (g : from + n ≡ to → ⊥) {o : Order} (p : Ordered s from (from + n) o) where
-  pub ascending_on : {r : Bool} → o ≡ Lower → TellsItems Ascending s (from + n) to r → TellsItems Ascending s from to r
+module _ {s : List ℕ} {from to n : ℕ} (f : from ≡ to → ⊥) (l : Length s from n) (g : from + n ≡ to → ⊥) {o : Ordering} (p : Ordered s from (from + n) o) where
+  pub ascending_on : {r : Bool} → o ≡ Less → TellsItems Ascending s (from + n) to r → TellsItems Ascending s from to r
   unfolding Ascending
   ascending_on {r} e t vs h =
       let y = starts f l h in
       let z = uncons_of g y.rest in
       let v = y.first in
-      let low : order v z.first ≡ Lower = sym (p v z.first y.here z.first-at) ∙ e in
+      let low : order v z.first ≡ Less = sym (p v z.first y.here z.first-at) ∙ e in
       let b : Tells (Ascending (more z.first z.rest)) r = subst (λ (x : Items). Tells (Ascending x) r) z.is (t y.left y.rest) in
       subst (λ (x : Items). Tells (Ascending x) r) (sym (y.is ∙ ap (more v) z.is))
       (tells_of (λ a. (before_first v z.first z.rest low a.0, a)) (λ a. a.1) b)
 
-  pub ascending_off : (o ≡ Lower → ⊥) → TellsItems Ascending s from to false
+  pub ascending_off : (o ≡ Less → ⊥) → TellsItems Ascending s from to false
   unfolding Ascending Before
   ascending_off q vs h =
       let y = starts f l h in
@@ -107,8 +111,8 @@ module _ {s : List ℕ} {from to n m : ℕ} (f : from ≡ to → ⊥) (l : Lengt
       let d = y.is ∙ ap (more y.first) (x.is ∙ ap (more x.first) (items_none (omega arith) x.rest)) in
       tells_true (subst Entries (sym d) (tt, (tt, tt)))
 
-  module _ (i : from + n + m ≡ to → ⊥) {o : Order} (p : Ordered s from (from + n + m) o) where
-    pub entries_on : {r : Bool} → o ≡ Lower → TellsItems Entries s (from + n + m) to r → TellsItems Entries s from to r
+  module _ (i : from + n + m ≡ to → ⊥) {o : Ordering} (p : Ordered s from (from + n + m) o) where
+    pub entries_on : {r : Bool} → o ≡ Less → TellsItems Entries s (from + n + m) to r → TellsItems Entries s from to r
     unfolding Ascending PairedFrom every_other
     entries_on {r} e t vs h =
         let y = starts f l h in
@@ -116,12 +120,12 @@ module _ {s : List ℕ} {from to n m : ℕ} (f : from ≡ to → ⊥) (l : Lengt
         let z = uncons_of i x.rest in
         let v = y.first in
         let w = z.first in
-        let low : order v w ≡ Lower = sym (p v w y.here z.first-at) ∙ e in
+        let low : order v w ≡ Less = sym (p v w y.here z.first-at) ∙ e in
         let b : Tells (Entries (more w z.rest)) r = subst (λ (x : Items). Tells (Entries x) r) z.is (t x.left x.rest) in
         subst (λ (x : Items). Tells (Entries x) r) (sym (y.is ∙ ap (more v) (x.is ∙ ap (more x.first) z.is)))
         (tells_of (λ a. (a.0, (before_first v w (every_other false z.rest) low a.1.0, a.1))) (λ a. (a.0, a.1.1)) b)
 
-    pub entries_off : (o ≡ Lower → ⊥) → TellsItems Entries s from to false
+    pub entries_off : (o ≡ Less → ⊥) → TellsItems Entries s from to false
     unfolding Ascending Before PairedFrom every_other
     entries_off q vs h =
         let y = starts f l h in

@@ -3,7 +3,7 @@
 use Rattle.std.specs.Prelude.{◌≡◌, Bool, List, [], ◌++◌, ◌⊎◌, ℕ, ◌+◌, ◌-◌, ◌≤◌, length, take, drop, replicate}
 use Rattle.std.proofs.lemmas.List.Edits.{sets}
 use Rattle.integers.specs.Bytes.{word}
-use Rattle.integers.specs.declared.Order.{Order}
+use Rattle.std.specs.declared.cmp.Ordering.{Ordering}
 use Rattle.values.specs.declared.Value.{Value as Copy}
 use Rattle.values.specs.Value.{Value, boolean, quote, Items, kind_of, size, byte_of, headed, encode, order, order_items, value_limit}
 use Rattle.values.specs.Items.{same}
@@ -43,15 +43,15 @@ pub record NumberAt (s : List ℕ) (at r : ℕ) : Type 0 where
   pub own : (n : ℕ) → At s at (quote n) → r ≡ n
 
 -- o is the order of the values at two places, and of the items between two places each
-abbrev pub Ordered : List ℕ → ℕ → ℕ → Order → Type 0
+abbrev pub Ordered : List ℕ → ℕ → ℕ → Ordering → Type 0
 Ordered s a b o = (v w : Value) → At s a v → At s b w → o ≡ order v w
 
-abbrev pub OrderedItems : List ℕ → ℕ → ℕ → ℕ → ℕ → Order → Type 0
+abbrev pub OrderedItems : List ℕ → ℕ → ℕ → ℕ → ℕ → Ordering → Type 0
 OrderedItems s a a' b b' o = (vs ws : Items) → ItemsAt s a a' vs → ItemsAt s b b' ws → o ≡ order_items vs ws
 
 -- r says whether the values at two places are equal
-abbrev pub Equal : List ℕ → ℕ → ℕ → Bool → Type 0
-Equal s a b r = (v w : Value) → At s a v → At s b w → r ≡ same v w
+abbrev pub AreEqual : List ℕ → ℕ → ℕ → Bool → Type 0
+AreEqual s a b r = (v w : Value) → At s a v → At s b w → r ≡ same v w
 
 -- ---- handing out
 
@@ -88,11 +88,10 @@ pub record Put (s t : List ℕ) (at : ℕ) (v : Value) (n r : ℕ) : Type 0 wher
 
 -- ---- copying
 
--- n bytes can be copied from a place to another, first to last: up past their end, or down, over themselves too
+-- n bytes can be copied from a place to another
 pub record Movable (s : List ℕ) (from to n : ℕ) : Type 0 where
   pub there : from + n ≤ length s
   pub room : to + n ≤ length s
-  pub apart : (from + n ≤ to) ⊎ (to ≤ from)
 
 -- t is s with the n bytes at `from` put at `to`
 pub record Moved (s t : List ℕ) (from to n : ℕ) : Type 0 where

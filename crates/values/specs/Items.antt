@@ -1,18 +1,14 @@
 -- Items taken together: joining, members, places, ordered insertion, and the entries of maps. The code of `collections` does these.
 use Rattle.std.specs.Prelude.{Bool, true, false, cond, ℕ, zero, suc}
 use Rattle.std.proofs.Math.Option.{Option, none as absent, some}
-use Rattle.integers.specs.declared.Order.{Order}
-use Rattle.integers.specs.declared.Order.TheVariants.{Lower, Same, Higher}
+use Rattle.std.specs.declared.cmp.Ordering.{Ordering}
+use Rattle.std.specs.declared.cmp.Ordering.TheVariants.{Less, Equal, Greater}
+use Rattle.std.specs.Ordering.{is_eq}
 use Rattle.values.specs.Value.{Value, Items, none, more, order}
-
-abbrev pub is_same : Order → Bool
-is_same Lower = false
-is_same Same = true
-is_same Higher = false
 
 -- Equality compares any two values.
 abbrev pub same : Value → Value → Bool
-same v w = is_same (order v w)
+same v w = is_eq (order v w)
 
 -- Items one after the other, and one item put at the end.
 unfoldable pub join : Items → Items → Items
@@ -34,10 +30,10 @@ nth (more v vs) zero = some v
 nth (more v vs) (suc k) = nth vs k
 
 -- A member put in order; it is there already where it is the same as one.
-abbrev pub in_order {ℓ} : {A : Type ℓ} → Order → A → A → A → A
-in_order Lower a b c = a
-in_order Same a b c = b
-in_order Higher a b c = c
+abbrev pub in_order {ℓ} : {A : Type ℓ} → Ordering → A → A → A → A
+in_order Less a b c = a
+in_order Equal a b c = b
+in_order Greater a b c = c
 
 unfoldable pub insert : Value → Items → Items
 insert v none = more v none

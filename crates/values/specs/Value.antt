@@ -4,8 +4,8 @@ use Rattle.std.specs.Prelude.{◌≡◌, Bool, true, false, List, [], ◌∷◌,
 use Rattle.integers.specs.Bytes.{pair, integer_bytes}
 use Rattle.integers.specs.Whole.{InRange}
 use Rattle.integers.specs.Order.{order_ℕ, order_ℤ}
-use Rattle.integers.specs.declared.Order.{Order}
-use Rattle.integers.specs.declared.Order.TheVariants.{Lower, Same, Higher}
+use Rattle.std.specs.declared.cmp.Ordering.{Ordering}
+use Rattle.std.specs.declared.cmp.Ordering.TheVariants.{Less, Equal, Greater}
 
 -- ---- values
 
@@ -92,41 +92,41 @@ unfoldable mutual
 
 -- ---- the order
 
--- What the first says, and where that is Same, what the second says.
-abbrev pub after : Order → Order → Order
-after Lower o = Lower
-after Same o = o
-after Higher o = Higher
+-- What the first says, and where that is Equal, what the second says.
+abbrev pub after : Ordering → Ordering → Ordering
+after Less o = Less
+after Equal o = o
+after Greater o = Greater
 
 -- Within one kind: false before true; integers by size; quotes by number; the others item by item, a prefix before what extends it.
 -- (Two kinds never meet here: `order` has told them apart, so what stands for them is of no account.)
 unfoldable mutual
-  pub within : Value → Value → Order
+  pub within : Value → Value → Ordering
   within (boolean a) (boolean b) = order_ℕ (byte_of a) (byte_of b)
-  within (boolean a) (integer b) = Same
-  within (boolean a) (quote b) = Same
-  within (boolean a) (collection l b) = Same
-  within (integer a) (boolean b) = Same
+  within (boolean a) (integer b) = Equal
+  within (boolean a) (quote b) = Equal
+  within (boolean a) (collection l b) = Equal
+  within (integer a) (boolean b) = Equal
   within (integer a) (integer b) = order_ℤ a b
-  within (integer a) (quote b) = Same
-  within (integer a) (collection l b) = Same
-  within (quote a) (boolean b) = Same
-  within (quote a) (integer b) = Same
+  within (integer a) (quote b) = Equal
+  within (integer a) (collection l b) = Equal
+  within (quote a) (boolean b) = Equal
+  within (quote a) (integer b) = Equal
   within (quote a) (quote b) = order_ℕ a b
-  within (quote a) (collection l b) = Same
-  within (collection k a) (boolean b) = Same
-  within (collection k a) (integer b) = Same
-  within (collection k a) (quote b) = Same
+  within (quote a) (collection l b) = Equal
+  within (collection k a) (boolean b) = Equal
+  within (collection k a) (integer b) = Equal
+  within (collection k a) (quote b) = Equal
   within (collection k a) (collection l b) = order_items a b
 
-  pub order_items : Items → Items → Order
-  order_items none none = Same
-  order_items none (more w ws) = Lower
-  order_items (more v vs) none = Higher
+  pub order_items : Items → Items → Ordering
+  order_items none none = Equal
+  order_items none (more w ws) = Less
+  order_items (more v vs) none = Greater
   order_items (more v vs) (more w ws) = after (after (order_ℕ (kind_of v) (kind_of w)) (within v w)) (order_items vs ws)
 
 -- The order of any two values: lower kind first.
-abbrev pub order : Value → Value → Order
+abbrev pub order : Value → Value → Ordering
 order v w = after (order_ℕ (kind_of v) (kind_of w)) (within v w)
 
 -- ---- well-formed values
@@ -138,7 +138,7 @@ value_limit = 512
 -- v is lower than each of the items.
 unfoldable pub Before : Value → Items → Type 0
 Before v none = Unit {0}
-Before v (more w ws) = (order v w ≡ Lower) × Before v ws
+Before v (more w ws) = (order v w ≡ Less) × Before v ws
 
 -- Strictly ascending: each item is lower than all that follow it.
 unfoldable pub Ascending : Items → Type 0

@@ -5,9 +5,9 @@ ghost use Rattle.std.specs.Prelude.{◌+◌, ◌≤◌, ◌<◌, [], length};
 ghost use Rattle.integers.specs.Whole.{InRange};
 ghost use Rattle.values.specs.Value.{boolean, integer, quote};
 ghost use Rattle.values.specs.Place.{At, Holds, HoldsItems};
-ghost use Rattle.values.specs.Contract.{Length, KindAt, OfKind, Both, Numbered, NumberAt, Ordered, OrderedItems, Equal, Shows, ShowsAt, PutHead, Put, Movable, Moved, Copyable, Copied};
+ghost use Rattle.values.specs.Contract.{Length, KindAt, OfKind, Both, Numbered, NumberAt, Ordered, OrderedItems, AreEqual, Shows, ShowsAt, PutHead, Put, Movable, Moved, Copyable, Copied};
 
-use integers::Order;
+use std::cmp::Ordering;
 
 pub mod validity;
 
@@ -43,6 +43,9 @@ impl Value {
     // Where a record's contents start: length and kind take two bytes each.
     pub const HEAD: usize = 4;
 
+    // The length of an integer's record.
+    pub const INTEGER_BYTES: usize = 8;
+
     // No value: zeros.
     pub fn empty() -> Value
         ensures { Shows [] result }
@@ -60,11 +63,7 @@ impl Value {
     {
         let n = length_of(s, at);
         let mut bytes = [0; Value::LIMIT];
-        let mut k = 0;
-        while k < n {
-            bytes[k] = s[at + k];
-            k += 1;
-        }
+        bytes[..n].copy_from_slice(&s[at..at + n]);
         Value { bytes, len: n }
     }
 }
@@ -119,13 +118,13 @@ fn number_at(s: &[u8], at: usize, kind: usize) -> usize
     ensures { NumberAt s.now at result }
 {
     if kind == Value::BOOLEAN {
-        return s[at + Value::HEAD] as usize;
+        return usize::from(s[at + Value::HEAD]);
     }
     quote_at(s, at)
 }
 
 // The order of the booleans or quotes at two places, by number.
-fn compare_numbered(s: &[u8], a: usize, b: usize, kind: usize) -> Order
+fn compare_numbered(s: &[u8], a: usize, b: usize, kind: usize) -> Ordering
     requires { Both s.now a b kind × Numbered kind }
     ensures { Ordered s.now a b result }
 {
@@ -135,7 +134,7 @@ fn compare_numbered(s: &[u8], a: usize, b: usize, kind: usize) -> Order
 }
 
 // The order of the integers at two places, by size.
-pub fn compare_integers(s: &[u8], a: usize, b: usize) -> Order
+pub fn compare_integers(s: &[u8], a: usize, b: usize) -> Ordering
     requires { Both s.now a b 2 }
     ensures { Ordered s.now a b result }
 {
@@ -146,7 +145,7 @@ pub fn compare_integers(s: &[u8], a: usize, b: usize) -> Order
 
 // The order of the values at two places: lower kind first, then the contents.
 #[cycle(compare_compare_items)]
-pub fn compare(s: &[u8], a: usize, b: usize) -> Order
+pub fn compare(s: &[u8], a: usize, b: usize) -> Ordering
     requires { Holds s.now a × Holds s.now b }
     ensures { Ordered s.now a b result }
 {
@@ -171,42 +170,34 @@ pub fn compare(s: &[u8], a: usize, b: usize) -> Order
 
 // The order of the items between two places each: item by item, a prefix before what extends it.
 #[cycle(compare_compare_items)]
-pub fn compare_items(s: &[u8], a: usize, a_end: usize, b: usize, b_end: usize) -> Order
+pub fn compare_items(s: &[u8], a: usize, a_end: usize, b: usize, b_end: usize) -> Ordering
     requires { HoldsItems s.now a a_end × HoldsItems s.now b b_end }
     ensures { OrderedItems s.now a a_end b b_end result }
 {
     if a == a_end {
         if b == b_end {
-            return Order::Same;
+            return Ordering::Equal;
         }
-        return Order::Lower;
+        return Ordering::Less;
     }
     if b == b_end {
-        return Order::Higher;
+        return Ordering::Greater;
     }
     let first = compare(s, a, b);
-    match first {
-        Order::Lower => Order::Lower,
-        Order::Higher => Order::Higher,
-        Order::Same => {
-            let la = length_of(s, a);
-            let lb = length_of(s, b);
-            compare_items(s, a + la, a_end, b + lb, b_end)
-        }
+    if first.is_ne() {
+        return first;
     }
+    let la = length_of(s, a);
+    let lb = length_of(s, b);
+    compare_items(s, a + la, a_end, b + lb, b_end)
 }
 
 // Whether the values at two places are equal.
 pub fn equal(s: &[u8], a: usize, b: usize) -> bool
     requires { Holds s.now a × Holds s.now b }
-    ensures { Equal s.now a b result }
+    ensures { AreEqual s.now a b result }
 {
-    let o = compare(s, a, b);
-    match o {
-        Order::Same => true,
-        Order::Lower => false,
-        Order::Higher => false,
-    }
+    compare(s, a, b).is_eq()
 }
 
 // ---- writing
@@ -226,7 +217,7 @@ pub fn put_boolean(s: &mut [u8], at: usize, b: bool) -> usize
     ensures { Put s.old s.new at (boolean b) 5 result }
 {
     put_head(s, at, 5, Value::BOOLEAN);
-    s[at + Value::HEAD] = b as u8;
+    s[at + Value::HEAD] = u8::from(b);
     at + 5
 }
 
@@ -235,9 +226,9 @@ pub fn put_integer(s: &mut [u8], at: usize, z: i32) -> usize
     requires { (at + 8 ≤ length s.old) × InRange z }
     ensures { Put s.old s.new at (integer z) 8 result }
 {
-    put_head(s, at, 8, Value::INTEGER);
+    put_head(s, at, Value::INTEGER_BYTES, Value::INTEGER);
     integers::bytes::put32(s, at + Value::HEAD, z);
-    at + 8
+    at + Value::INTEGER_BYTES
 }
 
 // Writes the record of a quote, and gives the place past it.
@@ -252,16 +243,13 @@ pub fn put_quote(s: &mut [u8], at: usize, n: usize) -> usize
 
 // ---- copying
 
-// Copies n bytes, first to last: up past their end, or down, over themselves too.
+// Copies n bytes, over themselves too.
+#[inline(never)]
 pub fn copy_bytes(s: &mut [u8], from: usize, to: usize, n: usize)
     requires { Movable s.old from to n }
     ensures { Moved s.old s.new from to n }
 {
-    let mut i = 0;
-    while i < n {
-        s[to + i] = s[from + i];
-        i += 1;
-    }
+    s.copy_within(from..from + n, to);
 }
 
 // Copies the record at a place to another, and gives the place past it.

@@ -5,7 +5,6 @@ ghost use Rattle.values.specs.Place.{HoldsItems};
 ghost use Rattle.values.specs.Validity.{Tells, IsValue, Inside, Boolean, TellsItems, CountsItems, Entries, ItemsShapedAs, Span};
 
 use crate::Value;
-use integers::Order;
 
 // ---- the shape of items that are known to stand between two places
 
@@ -21,12 +20,7 @@ fn ascending(s: &[u8], from: usize, to: usize) -> bool
     if next == to {
         return true;
     }
-    let o = crate::compare(s, from, next);
-    match o {
-        Order::Lower => ascending(s, next, to),
-        Order::Same => false,
-        Order::Higher => false,
-    }
+    crate::compare(s, from, next).is_lt() && ascending(s, next, to)
 }
 
 // Whether the items between two places are key, value, key, value, with keys that ascend strictly.
@@ -45,12 +39,7 @@ fn entries(s: &[u8], from: usize, to: usize) -> bool
     if next == to {
         return true;
     }
-    let o = crate::compare(s, from, next);
-    match o {
-        Order::Lower => entries(s, next, to),
-        Order::Same => false,
-        Order::Higher => false,
-    }
+    crate::compare(s, from, next).is_lt() && entries(s, next, to)
 }
 
 // How many items stand between two places.
@@ -81,10 +70,7 @@ fn shaped(s: &[u8], from: usize, to: usize, kind: usize) -> bool
     }
     if kind == Value::TUPLE {
         let n = count(s, from, to);
-        if n < 2 {
-            return false;
-        }
-        return n <= 4;
+        return 2 <= n && n <= 4;
     }
     false
 }
@@ -96,10 +82,7 @@ fn boolean(s: &[u8], at: usize, n: usize) -> bool
     requires { Boolean s.now at n }
     ensures { Tells (Inside s.now at (at + n)) result }
 {
-    if n != 5 {
-        return false;
-    }
-    s[at + Value::HEAD] < 2
+    n == 5 && s[at + Value::HEAD] < 2
 }
 
 // Whether the record of some value stands at a place, and ends at another or before it.
@@ -123,15 +106,12 @@ pub fn valid(s: &[u8], at: usize, to: usize) -> bool
         return boolean(s, at, n);
     }
     if kind == Value::INTEGER {
-        return n == 8;
+        return n == Value::INTEGER_BYTES;
     }
     if kind == Value::QUOTE {
         return n == 6;
     }
-    if valid_items(s, at + Value::HEAD, at + n) {
-        return shaped(s, at + Value::HEAD, at + n, kind);
-    }
-    false
+    valid_items(s, at + Value::HEAD, at + n) && shaped(s, at + Value::HEAD, at + n, kind)
 }
 
 // Whether records of values stand from a place up to another.
@@ -158,8 +138,5 @@ pub fn is_value(bytes: &[u8]) -> bool
     if n > Value::LIMIT {
         return false;
     }
-    if valid(bytes, 0, n) {
-        return integers::bytes::read16(bytes, 0) == n;
-    }
-    false
+    valid(bytes, 0, n) && integers::bytes::read16(bytes, 0) == n
 }

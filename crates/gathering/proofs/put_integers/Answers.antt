@@ -4,7 +4,7 @@ use Rattle.gathering.proofs.Spans.{integers_none, integers_more, spans_integers,
 use Rattle.gathering.proofs.put_integers.Goals as goal
 
 pub loop-i-init : goal.loop-i-init
-loop-i-init c = (omega arith, integers_none _ _ _ (omega arith))
+loop-i-init c = integers_none _ _ _ (omega arith)
 
 pub overflow_mul-i : goal.overflow_mul-i
 overflow_mul-i c = omega arith
@@ -20,20 +20,14 @@ overflow_add-from c = added_fits c.ranges.from (omega arith) c.requires.fine c.l
 
 pub put_integer-requires : goal.put_integer-requires
 put_integer-requires c =
-    (omega (arith, c.loop-i.invariant.1.outside.long), added_range c.ranges.from (omega arith) c.requires.fine c.loop-i-test.true)
-
-pub overflow_add-i : goal.overflow_add-i
-overflow_add-i c = omega arith
-
-pub loop-i-smaller : goal.loop-i-smaller
-loop-i-smaller c = omega arith
+    (omega (arith, c.loop-i.invariant.outside.long), added_range c.ranges.from (omega arith) c.requires.fine c.loop-i-test.true)
 
 pub loop-i-preserved : goal.loop-i-preserved
 loop-i-preserved c =
-    (omega arith, integers_more c.loop-i.i c.loop-i.invariant.1 (added_is c.ranges.from (omega arith) c.requires.fine c.loop-i-test.true) c.put_integer.ensures (omega arith))
+    integers_more c.loop-i.i c.loop-i.invariant (added_is c.ranges.from (omega arith) c.requires.fine c.loop-i-test.true) c.put_integer.ensures (omega arith)
 
 pub shape_of-s : goal.shape_of-s
-shape_of-s c = c.loop-i.invariant.1.outside.long
+shape_of-s c = c.loop-i.invariant.outside.long
 
 pub returns : goal.returns
-returns c = spans_integers c.ranges.from c.loop-i.invariant.0 c.loop-i-test.false c.loop-i.invariant.1
+returns c = spans_integers c.ranges.from c.loop-i.auto.i-end c.loop-i-test.false c.loop-i.invariant

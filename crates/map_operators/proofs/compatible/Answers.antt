@@ -36,24 +36,24 @@ overflow_add-v c =
 pub agrees-requires : goal.agrees-requires
 agrees-requires c = agree_beside c.loop-p.invariant (omega arith) c.length_of-in-loop-p.ensures.is
 
-pub length_of-requires-then-agrees : goal.length_of-requires-then-agrees
-length_of-requires-then-agrees c = holds (agree_next c.loop-p.invariant (omega arith) c.length_of-in-loop-p.ensures.is refl).value_at
+pub length_of-requires-in-loop-p-2 : goal.length_of-requires-in-loop-p-2
+length_of-requires-in-loop-p-2 c = holds (agree_next c.loop-p.invariant (omega arith) c.length_of-in-loop-p.ensures.is refl).value_at
 
-pub overflow_add-p-then-agrees : goal.overflow_add-p-then-agrees
-overflow_add-p-then-agrees c =
-    let y = agree_next c.loop-p.invariant (omega arith) c.length_of-in-loop-p.ensures.is c.length_of-then-agrees.ensures.is in let f = y.rest_at.fits in omega arith
+pub overflow_add-p-in-loop-p : goal.overflow_add-p-in-loop-p
+overflow_add-p-in-loop-p c =
+    let y = agree_next c.loop-p.invariant (omega arith) c.length_of-in-loop-p.ensures.is c.length_of-in-loop-p-2.ensures.is in let f = y.rest_at.fits in omega arith
 
 pub loop-p-smaller : goal.loop-p-smaller
 loop-p-smaller c =
-    let y = agree_next c.loop-p.invariant (omega arith) c.length_of-in-loop-p.ensures.is c.length_of-then-agrees.ensures.is in omega arith
+    let y = agree_next c.loop-p.invariant (omega arith) c.length_of-in-loop-p.ensures.is c.length_of-in-loop-p-2.ensures.is in omega arith
 
 pub loop-p-preserved : goal.loop-p-preserved
 loop-p-preserved c =
-    agree_step c.loop-p.invariant (omega arith) c.length_of-in-loop-p.ensures.is c.agrees.ensures c.if-agrees.true c.length_of-then-agrees.ensures.is
+    agree_step c.loop-p.invariant (omega arith) c.length_of-in-loop-p.ensures.is c.agrees.ensures c.if-not-agrees.false c.length_of-in-loop-p-2.ensures.is
 
-pub returns-else-agrees : goal.returns-else-agrees
-returns-else-agrees c =
-    agree_off c.loop-p.invariant (omega arith) c.length_of-in-loop-p.ensures.is c.agrees.ensures c.if-agrees.false
+pub returns-then-not-agrees : goal.returns-then-not-agrees
+returns-then-not-agrees c =
+    agree_off c.loop-p.invariant (omega arith) c.length_of-in-loop-p.ensures.is c.agrees.ensures c.if-not-agrees.true
 
 pub returns : goal.returns
 returns c = agree_end c.loop-p.invariant (omega arith)

@@ -1,8 +1,8 @@
 -- `enter_all` meets its contract: what is left of the first map, entered into by what is made of the second, is the whole.
-use mathlib.Core.Path.{refl}
+use mathlib.Core.Path.{refl, sym, ◌∙◌}
 use native.Mathlib.Omega.{arith}
 use Rattle.values.proofs.Records.{holds, uncons}
-use Rattle.map_operators.proofs.Overriding.{over_start, over_next, over_room, put_not_full, clash_not_full, over_full, over-step, over_copyable, over_end}
+use Rattle.map_operators.proofs.Overriding.{over_start, over_next, over_room, told_full, told_not_full, over_full, over-step, over_copyable, over_end}
 use Rattle.map_operators.proofs.enter_all.Goals as goal
 
 pub length_of-requires : goal.length_of-requires
@@ -34,32 +34,9 @@ overflow_add-next c =
 pub overflow_add-base : goal.overflow_add-base
 overflow_add-base c = omega arith
 
-pub enter-requires : goal.enter-requires
-enter-requires c =
+pub enter-entered-requires : goal.enter-entered-requires
+enter-entered-requires c =
     over_room c.loop-p.invariant (omega arith) c.length_of-in-loop-p.ensures.is c.length_of-in-loop-p-2.ensures.is
-
-pub shape_of-s-in-Full : goal.shape_of-s-in-Full
-shape_of-s-in-Full c = omega arith
-
-pub returns-in-Full : goal.returns-in-Full
-returns-in-Full c =
-    over_full c.loop-p.invariant (over_next c.loop-p.invariant (omega arith) c.length_of-in-loop-p.ensures.is c.length_of-in-loop-p-2.ensures.is) c.enter.ensures c.in-Full.is
-
-pub loop-p-smaller-in-Done : goal.loop-p-smaller-in-Done
-loop-p-smaller-in-Done c =
-    let y = over_next c.loop-p.invariant (omega arith) c.length_of-in-loop-p.ensures.is c.length_of-in-loop-p-2.ensures.is in omega arith
-
-pub loop-p-preserved-in-Done : goal.loop-p-preserved-in-Done
-loop-p-preserved-in-Done c =
-    over-step c.loop-p.invariant (over_next c.loop-p.invariant (omega arith) c.length_of-in-loop-p.ensures.is c.length_of-in-loop-p-2.ensures.is) c.enter.ensures (put_not_full c.in-Done.is)
-
-pub loop-p-smaller : goal.loop-p-smaller
-loop-p-smaller c =
-    let y = over_next c.loop-p.invariant (omega arith) c.length_of-in-loop-p.ensures.is c.length_of-in-loop-p-2.ensures.is in omega arith
-
-pub loop-p-preserved : goal.loop-p-preserved
-loop-p-preserved c =
-    over-step c.loop-p.invariant (over_next c.loop-p.invariant (omega arith) c.length_of-in-loop-p.ensures.is c.length_of-in-loop-p-2.ensures.is) c.enter.ensures (clash_not_full c.in-Clash.is)
 
 pub overflow_add-base-2 : goal.overflow_add-base-2
 overflow_add-base-2 c = omega arith
@@ -72,3 +49,11 @@ shape_of-s c = omega arith
 
 pub returns : goal.returns
 returns c = over_end c.loop-p.invariant (omega arith) c.copy_value.ensures
+
+pub returns-then-eq : goal.returns-then-eq
+returns-then-eq c =
+    rw (told_full c.enter-entered.result (sym c.eq.ensures ∙ c.if-eq.true)) (over_full c.loop-p.invariant (over_next c.loop-p.invariant (omega arith) c.length_of-in-loop-p.ensures.is c.length_of-in-loop-p-2.ensures.is) c.enter-entered.ensures (told_full _ (sym c.eq.ensures ∙ c.if-eq.true)))
+
+pub loop-p-preserved : goal.loop-p-preserved
+loop-p-preserved c =
+    over-step c.loop-p.invariant (over_next c.loop-p.invariant (omega arith) c.length_of-in-loop-p.ensures.is c.length_of-in-loop-p-2.ensures.is) c.enter-entered.ensures (told_not_full _ (sym c.eq.ensures ∙ c.if-eq.false))

@@ -2,13 +2,14 @@
 use native.Mathlib.Omega.{arith}
 use Rattle.operators.specs.Operators.{binary}
 use Rattle.scalars.proofs.Numbers.{on_integers}
+use Rattle.calling.proofs.Answering.{passed_up}
 use Rattle.calling.proofs.Pairs.{pair_gives, pair_off}
 use Rattle.scalars.proofs.comparison.Goals as goal
 
-pub returns-in-Integers : goal.returns-in-Integers
-returns-in-Integers c =
-    pair_gives c.two_integers-read.ensures {f = binary c.args.operator} c.in-Integers.is c.test.ensures c.put_truth.ensures
+pub returns : goal.returns
+returns c =
+    pair_gives c.two_integers.ensures {f = binary c.args.operator} c.in_ok-a.was c.test.ensures c.put_truth.ensures
 
-pub returns-in-Others : goal.returns-in-Others
-returns-in-Others c =
-    let i = on_integers c.args.operator (omega arith) (omega arith) in pair_off c.two_integers-read.ensures i.f i.is c.in-Others.is
+pub returns-in_err-a : goal.returns-in_err-a
+returns-in_err-a c =
+    let i = on_integers c.args.operator (omega arith) (omega arith) in rw (passed_up _ c.from_residual.ensures.1) (pair_off c.two_integers.ensures i.f i.is c.in_err-a.was)

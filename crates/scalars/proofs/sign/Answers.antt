@@ -5,7 +5,7 @@ use Prim.Native.Nat.{ℕ}
 use lib.IntN.{ℤ}
 use mir.Syntax.{w32}
 use mir.Val.{SFits}
-use Rattle.integers.specs.declared.Number.{Number}
+use Rattle.integers.specs.Whole.{Number}
 use Rattle.integers.specs.Whole as Whole
 use Rattle.values.specs.Value.{integer}
 use Rattle.operators.specs.Arithmetic.{answered}

@@ -1,7 +1,8 @@
 -- `set_operators::all_in` meets its contract: the answer from here on is the answer from the start on.
 use native.Mathlib.Omega.{arith}
 use Rattle.values.proofs.Records.{holds}
-use Rattle.set_operators.proofs.Testing.{test_start, test_fails, test_on, test_end, in_set, in_set_lem}
+use Rattle.set_operators.proofs.Testing.{in_set, in_set_lem}
+use Rattle.gathering.proofs.Testing.{test_start, test_fails, test_on, test_end}
 use Rattle.gathering.proofs.Walks.{walked_first}
 use Rattle.set_operators.proofs.all_in.Goals as goal
 

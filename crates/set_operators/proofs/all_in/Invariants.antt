@@ -1,5 +1,6 @@
 use Prim.Native.Nat.{◌-◌}
-use Rattle.set_operators.proofs.Testing.{Testing, in_set}
+use Rattle.set_operators.proofs.Testing.{in_set}
+use Rattle.gathering.proofs.Testing.{Testing}
 use Rattle.set_operators.proofs.all_in.Given as goal
 
 abbrev pub invariant-loop-p : goal.invariant-loop-p

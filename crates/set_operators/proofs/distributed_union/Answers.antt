@@ -1,4 +1,5 @@
 -- `set_operators::distributed_union` meets its contract.
+use Rattle.calling.proofs.Answering.{passed_up}
 use Rattle.set_operators.proofs.Telling.{family}
 use Rattle.set_operators.proofs.Gathers.{set_items, union_of_none, union_of_others, dunion_room, dunion_copy, dunion_full, dunion_done}
 use Rattle.set_operators.proofs.distributed_union.Goals as goal
@@ -19,12 +20,13 @@ insert_each-requires c =
 
 pub copy_value-requires : goal.copy_value-requires
 copy_value-requires c =
-    dunion_copy (family c.is_of_kind.ensures c.if-not-is_of_kind.false c.length_of.ensures.is c.all_of_kind.ensures c.if-not-all_of_kind.false) c.requires c.length_of.ensures.is c.put_empty.ensures c.insert_each.ensures c.in-Done.is
+    dunion_copy (family c.is_of_kind.ensures c.if-not-is_of_kind.false c.length_of.ensures.is c.all_of_kind.ensures c.if-not-all_of_kind.false) c.requires c.length_of.ensures.is c.put_empty.ensures c.insert_each.ensures c.in_ok-insert_each.was
 
-pub returns-in-Full : goal.returns-in-Full
-returns-in-Full c =
-    dunion_full (family c.is_of_kind.ensures c.if-not-is_of_kind.false c.length_of.ensures.is c.all_of_kind.ensures c.if-not-all_of_kind.false) c.requires c.length_of.ensures.is c.put_empty.ensures c.insert_each.ensures c.in-Full.is
+pub returns-in_err-insert_each : goal.returns-in_err-insert_each
+returns-in_err-insert_each c =
+    rw (passed_up c.from_residual.result c.from_residual.ensures.1)
+    (dunion_full (family c.is_of_kind.ensures c.if-not-is_of_kind.false c.length_of.ensures.is c.all_of_kind.ensures c.if-not-all_of_kind.false) c.requires c.length_of.ensures.is c.put_empty.ensures c.insert_each.ensures c.in_err-insert_each.was)
 
-pub returns-in-Done : goal.returns-in-Done
-returns-in-Done c =
-    dunion_done (family c.is_of_kind.ensures c.if-not-is_of_kind.false c.length_of.ensures.is c.all_of_kind.ensures c.if-not-all_of_kind.false) c.requires c.length_of.ensures.is c.put_empty.ensures c.insert_each.ensures c.in-Done.is c.copy_value.ensures
+pub returns : goal.returns
+returns c =
+    dunion_done (family c.is_of_kind.ensures c.if-not-is_of_kind.false c.length_of.ensures.is c.all_of_kind.ensures c.if-not-all_of_kind.false) c.requires c.length_of.ensures.is c.put_empty.ensures c.insert_each.ensures c.in_ok-insert_each.was c.copy_value.ensures

@@ -2,16 +2,18 @@
 use mathlib.Core.Path.{refl}
 use native.Mathlib.Omega.{arith}
 use Rattle.operators.specs.Sets.{how_many, consecutive}
+use Rattle.calling.proofs.Answering.{passed_up}
 use Rattle.calling.proofs.Pairs.{pair_off}
 use Rattle.set_operators.proofs.Ranges.{range_count, range_gives}
 use Rattle.set_operators.proofs.range.Goals as goal
 
 pub counting-requires : goal.counting-requires
-counting-requires c = range_count c.two_integers-read.ensures c.in-Integers.is c.how_many.ensures (omega arith)
+counting-requires c = range_count c.two_integers.ensures c.in_ok-a.was c.how_many.ensures (omega arith)
 
-pub returns-in-Integers : goal.returns-in-Integers
-returns-in-Integers c = range_gives c.two_integers-read.ensures c.in-Integers.is c.how_many.ensures c.counting.ensures
+pub returns : goal.returns
+returns c = range_gives c.two_integers.ensures c.in_ok-a.was c.how_many.ensures c.counting.ensures
 
-pub returns-in-Others : goal.returns-in-Others
-returns-in-Others c =
-    pair_off c.two_integers-read.ensures (λ a b. consecutive a (how_many a b)) (λ v w. refl) c.in-Others.is
+pub returns-in_err-a : goal.returns-in_err-a
+returns-in_err-a c =
+    rw (passed_up c.from_residual.result c.from_residual.ensures.1)
+    (pair_off c.two_integers.ensures (λ a b. consecutive a (how_many a b)) (λ v w. refl) c.in_err-a.was)

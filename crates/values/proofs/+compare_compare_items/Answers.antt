@@ -1,9 +1,9 @@
 -- The proof of the cycle of calls {compare, compare_items}. The measure of `compare` is the number of bytes of the first record, and that of
 -- `compare_items` one more than the number of bytes left of the first items.
-use mathlib.Core.Path.{refl}
+use mathlib.Core.Path.{refl, sym, ◌∙◌}
 use mathlib.Core.Logic.{inl, inr}
 use native.Mathlib.Omega.{arith}
-use Rattle.values.proofs.Ordering.{both, by_kinds, collections, first_items, second_items, ordered_by_items, both_none, first-none, second_none, begun, rest_items, items_first_lower, items_first_higher, items_first_same}
+use Rattle.values.proofs.Ordering.{both, by_kinds, collections, first_items, second_items, ordered_by_items, both_none, first-none, second_none, begun, rest_items, items_first_other, not_ne, items_first_same}
 use Rattle.values.proofs.+compare_compare_items.Goals as goal
 
 pub compare-kind_of-ka-requires : goal.compare-kind_of-ka-requires
@@ -108,12 +108,9 @@ compare_items-compare_items-requires t c =
     let x = begun c.if-a-a_end.false c.requires.0 in
     (omega arith, (rest_items c.if-a-a_end.false c.length_of-la.ensures p.0, rest_items c.if-b-b_end-2.false c.length_of-lb.ensures p.1))
 
-pub compare_items-returns-in-Lower : goal.compare_items-returns-in-Lower
-compare_items-returns-in-Lower t c = items_first_lower c.if-a-a_end.false c.if-b-b_end-2.false c.compare-first.ensures c.in-Lower.is
+pub compare_items-returns-then-is_ne : goal.compare_items-returns-then-is_ne
+compare_items-returns-then-is_ne t c = items_first_other c.if-a-a_end.false c.if-b-b_end-2.false c.compare-first.ensures (sym c.is_ne.ensures ∙ c.if-is_ne.true)
 
-pub compare_items-returns-in-Higher : goal.compare_items-returns-in-Higher
-compare_items-returns-in-Higher t c = items_first_higher c.if-a-a_end.false c.if-b-b_end-2.false c.compare-first.ensures c.in-Higher.is
-
-pub compare_items-returns-in-Same : goal.compare_items-returns-in-Same
-compare_items-returns-in-Same t c =
-    items_first_same c.if-a-a_end.false c.if-b-b_end-2.false c.compare-first.ensures _ c.in-Same.is c.length_of-la.ensures c.length_of-lb.ensures c.compare_items.ensures
+pub compare_items-returns : goal.compare_items-returns
+compare_items-returns t c =
+    items_first_same c.if-a-a_end.false c.if-b-b_end-2.false c.compare-first.ensures _ (not_ne (sym c.is_ne.ensures ∙ c.if-is_ne.false)) c.length_of-la.ensures c.length_of-lb.ensures c.compare_items.ensures

@@ -1,5 +1,4 @@
 -- `number_at` meets its contract.
-use Prim.Native.Nat.{◌+◌}
 use mathlib.Core.Path.{◌∙◌}
 use mathlib.Core.Logic.{⊎_elim}
 use native.Mathlib.Omega.{arith}
@@ -9,11 +8,8 @@ use Rattle.values.proofs.number_at.Goals as goal
 pub bounds-s-at : goal.bounds-s-at
 bounds-s-at c = omega (arith, boolean_room c.requires.0.held (c.requires.0.kind ∙ c.if-kind-eq-BOOLEAN.true))
 
-pub overflow_cast-result : goal.overflow_cast-result
-overflow_cast-result c = omega (arith, c.type_inv.s (c.args.at + 4))
-
 pub returns-then-kind-eq-BOOLEAN : goal.returns-then-kind-eq-BOOLEAN
-returns-then-kind-eq-BOOLEAN c = boolean_number (c.requires.0.kind ∙ c.if-kind-eq-BOOLEAN.true)
+returns-then-kind-eq-BOOLEAN c = rw c.from.ensures (boolean_number (c.requires.0.kind ∙ c.if-kind-eq-BOOLEAN.true))
 
 pub quote_at-requires : goal.quote_at-requires
 quote_at-requires c =

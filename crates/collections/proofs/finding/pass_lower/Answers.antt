@@ -6,7 +6,7 @@ use native.Mathlib.Omega.{arith}
 use mir.Facts.{to_z-of_z}
 use Rattle.values.proofs.Records.{holds}
 use Rattle.collections.proofs.Walks.{walk_run}
-use Rattle.collections.proofs.Looking.{look_start, look_higher, integer_inside, looks_on}
+use Rattle.collections.proofs.Looking.{look_start, look_higher, integer_inside, looks_on, not_le}
 use Rattle.collections.proofs.finding.pass_lower.Goals as goal
 
 pub length_of-requires : goal.length_of-requires
@@ -35,8 +35,8 @@ pub integer_at-y-requires : goal.integer_at-y-requires
 integer_at-y-requires c =
     record { held = holds (walk_run c.loop-p.invariant.1 (omega (arith, c.loop-p-test.true, c.loop-p.invariant.0)) c.requires.0).first-at; kind = sym c.kind_of.ensures.is ∙ c.if-kind_of-ne-INTEGER.false }
 
-pub returns-in_default : goal.returns-in_default
-returns-in_default c = looks_on c.loop-p.invariant.1
+pub returns-then-is_le : goal.returns-then-is_le
+returns-then-is_le c = looks_on c.loop-p.invariant.1
 
 pub overflow_add-p-in-loop-p : goal.overflow_add-p-in-loop-p
 overflow_add-p-in-loop-p c =
@@ -47,7 +47,7 @@ loop-p-smaller c = omega (arith, c.loop-p-test.true)
 
 pub loop-p-preserved : goal.loop-p-preserved
 loop-p-preserved c =
-    (c.loop-p.invariant.0, look_higher c.loop-p.invariant.1 (omega (arith, c.loop-p-test.true, c.loop-p.invariant.0)) c.integer_at-z.ensures c.integer_at-y.ensures (to_z-of_z {w = w32} (record { sfits = c.integer_at-z.type_inv })) (to_z-of_z {w = w32} (record { sfits = c.integer_at-y.type_inv })) c.compare-o.ensures c.in-Higher.is)
+    (c.loop-p.invariant.0, look_higher c.loop-p.invariant.1 (omega (arith, c.loop-p-test.true, c.loop-p.invariant.0)) c.integer_at-z.ensures c.integer_at-y.ensures (to_z-of_z {w = w32} (record { sfits = c.integer_at-z.type_inv })) (to_z-of_z {w = w32} (record { sfits = c.integer_at-y.type_inv })) c.compare.ensures (not_le (sym c.is_le.ensures ∙ c.if-is_le.false)))
 
 pub returns : goal.returns
 returns c = looks_on c.loop-p.invariant.1

@@ -4,14 +4,14 @@ use mathlib.Core.Bool.{Bool}
 use Prim.Native.Nat.{ℕ, ◌+◌, ◌<◌}
 use native.Mathlib.Omega.{arith}
 use Rattle.integers.specs.Bytes.{word}
-use Rattle.integers.specs.declared.Order.{Order}
+use Rattle.std.specs.declared.cmp.Ordering.{Ordering}
 use Rattle.values.specs.Items.{in_order}
 use Rattle.values.proofs.Records.{holds}
-use Rattle.collections.specs.declared.finding.Sought.TheVariants.{Here, Before}
+use Rattle.std.specs.Prelude.{Ok, Err}
 use Rattle.collections.proofs.Walks.{walk_run}
 use Rattle.collections.proofs.Looking.{Looking, looked, look_end, look-here, look_on, look_past}
 use Rattle.collections.proofs.finding.seek.Goals as goal
-use Rattle.collections.proofs.finding.seek.Goals.{then-key+in-Higher, else-key}
+use Rattle.collections.proofs.finding.seek.Goals.{then-key+in-Greater, else-key}
 
 pub length_of-requires : goal.length_of-requires
 length_of-requires c = holds c.requires.0.here
@@ -29,13 +29,13 @@ pub compare-requires : goal.compare-requires
 compare-requires c =
     (c.requires.1, holds (walk_run c.loop-p.invariant.1 (omega (arith, c.loop-p-test.true, c.loop-p.invariant.0)) c.requires.0).first-at)
 
-pub returns-in-Lower : goal.returns-in-Lower
-returns-in-Lower c =
-    look-here _ _ _ _ _ _ c.loop-p.invariant.1 (omega (arith, c.loop-p-test.true, c.loop-p.invariant.0)) c.if-key.true _ c.compare.ensures _ (λ q. ap (λ (o : Order). in_order o (Before c.loop-p.p) (Here c.loop-p.p) q) c.in-Lower.is)
+pub returns-in-Less : goal.returns-in-Less
+returns-in-Less c =
+    look-here _ _ _ _ _ _ c.loop-p.invariant.1 (omega (arith, c.loop-p-test.true, c.loop-p.invariant.0)) c.if-key.true _ c.compare.ensures _ (λ q. ap (λ (o : Ordering). in_order o (Err c.loop-p.p) (Ok c.loop-p.p) q) c.in-Less.is)
 
-pub returns-in-Same : goal.returns-in-Same
-returns-in-Same c =
-    look-here _ _ _ _ _ _ c.loop-p.invariant.1 (omega (arith, c.loop-p-test.true, c.loop-p.invariant.0)) c.if-key.true _ c.compare.ensures _ (λ q. ap (λ (o : Order). in_order o (Before c.loop-p.p) (Here c.loop-p.p) q) c.in-Same.is)
+pub returns-in-Equal : goal.returns-in-Equal
+returns-in-Equal c =
+    look-here _ _ _ _ _ _ c.loop-p.invariant.1 (omega (arith, c.loop-p-test.true, c.loop-p.invariant.0)) c.if-key.true _ c.compare.ensures _ (λ q. ap (λ (o : Ordering). in_order o (Err c.loop-p.p) (Ok c.loop-p.p) q) c.in-Equal.is)
 
 pub past-p-requires : goal.past-p-requires
 past-p-requires c =
@@ -62,7 +62,7 @@ loop-p-preserved c =
     let goal : Bool → Type 0 = λ key. Looking a.s.now a.at a.x a.entries (l.p + n) key in (
       l.invariant.0,
       elim c.if-key.branch [
-        | then-key+in-Higher w ↦ subst goal (sym w.key-is) (look_on _ _ _ _ _ _ l.invariant.1 lt w.if-key.true _ w.compare.ensures w.in-Higher.is n e)
+        | then-key+in-Greater w ↦ subst goal (sym w.key-is) (look_on _ _ _ _ _ _ l.invariant.1 lt w.if-key.true _ w.compare.ensures w.in-Greater.is n e)
         | else-key w ↦ subst goal (sym w.key-is) (look_past _ _ _ _ _ _ l.invariant.1 lt w.if-key.false n e)
       ],
     )

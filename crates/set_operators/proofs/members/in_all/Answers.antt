@@ -1,7 +1,8 @@
 -- `set_operators::members::in_all` meets its contract: the answer from here on is the answer from the start on.
 use native.Mathlib.Omega.{arith}
 use Rattle.values.proofs.Records.{holds}
-use Rattle.set_operators.proofs.Testing.{test_start, test_fails, test_on, test_end, sets_start, sets_on, first_set, in_each, in_each_lem}
+use Rattle.set_operators.proofs.Testing.{sets_start, sets_on, first_set, in_each, in_each_lem}
+use Rattle.gathering.proofs.Testing.{test_start, test_fails, test_on, test_end}
 use Rattle.set_operators.proofs.members.in_all.Goals as goal
 
 pub loop-p-init : goal.loop-p-init

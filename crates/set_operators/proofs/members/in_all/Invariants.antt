@@ -1,5 +1,6 @@
 use Prim.Native.Nat.{◌-◌}
-use Rattle.set_operators.proofs.Testing.{Testing, SetsLeft, in_each}
+use Rattle.set_operators.proofs.Testing.{SetsLeft, in_each}
+use Rattle.gathering.proofs.Testing.{Testing}
 use Rattle.set_operators.proofs.members.in_all.Given as goal
 
 abbrev pub invariant-loop-p : goal.invariant-loop-p

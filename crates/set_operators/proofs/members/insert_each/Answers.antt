@@ -2,6 +2,7 @@
 use mathlib.Core.Path.{refl, ◌∙◌}
 use native.Mathlib.Omega.{arith}
 use Rattle.operators.specs.Gather.{flatten}
+use Rattle.calling.proofs.Answering.{passed_up}
 use Rattle.set_operators.proofs.Testing.{sets_start, sets_on}
 use Rattle.gathering.proofs.Growth.{gather_start, gather_on, gather_full, gather_end}
 use Rattle.set_operators.proofs.Flattening.{flatten_law, each_next, each_room, each_step}
@@ -26,9 +27,10 @@ pub insert_all-requires : goal.insert_all-requires
 insert_all-requires c =
     each_room c.loop-p.invariant.0 c.loop-p.invariant.1 (omega arith) c.requires.0 c.requires.1 _ c.length_of-n.ensures.is
 
-pub returns-in-Full : goal.returns-in-Full
-returns-in-Full c =
-    gather_full c.loop-p.invariant.0 flatten_law (omega arith) c.requires.1.apart (each_step c.loop-p.invariant.0 c.loop-p.invariant.1 (omega arith) c.requires.0 c.requires.1 _ c.length_of-n.ensures.is c.insert_all.ensures) c.in-Full.is
+pub returns-in_err-insert_all : goal.returns-in_err-insert_all
+returns-in_err-insert_all c =
+    rw (passed_up c.from_residual.result c.from_residual.ensures.1)
+    (gather_full c.loop-p.invariant.0 flatten_law (omega arith) c.requires.1.apart (each_step c.loop-p.invariant.0 c.loop-p.invariant.1 (omega arith) c.requires.0 c.requires.1 _ c.length_of-n.ensures.is c.insert_all.ensures) c.in_err-insert_all.was)
 
 pub overflow_add-p-in-loop-p-2 : goal.overflow_add-p-in-loop-p-2
 overflow_add-p-in-loop-p-2 c =
@@ -40,7 +42,7 @@ loop-p-smaller c =
 
 pub loop-p-preserved : goal.loop-p-preserved
 loop-p-preserved c =
-    let n = each_next c.loop-p.invariant.0 c.loop-p.invariant.1 (omega arith) c.requires.0 c.requires.1 c.loop-p.invariant.0.frame in let e = c.length_of-n.ensures.is ∙ n.word_same in (gather_on c.loop-p.invariant.0 flatten_law (omega arith) c.requires.1.apart (each_step c.loop-p.invariant.0 c.loop-p.invariant.1 (omega arith) c.requires.0 c.requires.1 _ c.length_of-n.ensures.is c.insert_all.ensures) c.in-Done.is _ e, sets_on c.loop-p.invariant.1 (omega arith) _ e)
+    let n = each_next c.loop-p.invariant.0 c.loop-p.invariant.1 (omega arith) c.requires.0 c.requires.1 c.loop-p.invariant.0.frame in let e = c.length_of-n.ensures.is ∙ n.word_same in (gather_on c.loop-p.invariant.0 flatten_law (omega arith) c.requires.1.apart (each_step c.loop-p.invariant.0 c.loop-p.invariant.1 (omega arith) c.requires.0 c.requires.1 _ c.length_of-n.ensures.is c.insert_all.ensures) c.in_ok-insert_all.was _ e, sets_on c.loop-p.invariant.1 (omega arith) _ e)
 
 pub shape_of-s : goal.shape_of-s
 shape_of-s c = c.loop-p.invariant.0.frame.long

@@ -67,9 +67,9 @@ pub valid-returns-then-valid_items : goal.valid-returns-then-valid_items
 valid-returns-then-valid_items t c =
     collection_told c.type_inv.s (record { span = c.requires; len = c.read16-n.ensures.is; low = omega arith; inside = omega arith }) c.read16-kind.ensures c.if-kind-eq-BOOLEAN.false c.if-kind-eq-INTEGER.false c.if-kind-eq-QUOTE.false (c.valid_items.ensures.sound c.if-valid_items.true) c.shaped.ensures
 
-pub valid-returns : goal.valid-returns
-valid-returns t c =
-    items_missing c.type_inv.s (record { span = c.requires; len = c.read16-n.ensures.is; low = omega arith; inside = omega arith }) c.read16-kind.ensures c.if-kind-eq-BOOLEAN.false c.if-kind-eq-INTEGER.false c.if-kind-eq-QUOTE.false c.valid_items.ensures c.if-valid_items.false
+pub valid-returns-else-valid_items : goal.valid-returns-else-valid_items
+valid-returns-else-valid_items t c =
+    rw c.if-valid_items.false (items_missing c.type_inv.s (record { span = c.requires; len = c.read16-n.ensures.is; low = omega arith; inside = omega arith }) c.read16-kind.ensures c.if-kind-eq-BOOLEAN.false c.if-kind-eq-INTEGER.false c.if-kind-eq-QUOTE.false c.valid_items.ensures c.if-valid_items.false)
 
 pub valid_items-returns-then-at-to : goal.valid_items-returns-then-at-to
 valid_items-returns-then-at-to t c = items_end c.requires c.if-at-to.true

@@ -12,5 +12,5 @@ read16-requires c = let i = c.valid.ensures.sound c.if-valid.true in let h = i.h
 pub returns-then-valid : goal.returns-then-valid
 returns-then-valid c = alone_told (c.valid.ensures.sound c.if-valid.true) c.read16.ensures
 
-pub returns : goal.returns
-returns c = alone_off c.valid.ensures c.if-valid.false
+pub returns-else-valid : goal.returns-else-valid
+returns-else-valid c = rw c.if-valid.false (alone_off c.valid.ensures c.if-valid.false)

@@ -1,19 +1,20 @@
--- `set_operators::members::all_of_kind` meets its contract: the answer from here on is the answer from the start on.
+-- `all_of_kind` meets its contract: the answer from here on is the answer from the start on.
 use native.Mathlib.Omega.{arith}
 use Rattle.values.proofs.Records.{holds}
 use Rattle.gathering.proofs.Walks.{walked_first}
-use Rattle.set_operators.proofs.Testing.{test_start, test_fails, test_on, test_end, of_kind, kind_differs, kind_agrees}
-use Rattle.set_operators.proofs.members.all_of_kind.Goals as goal
+use Rattle.gathering.specs.Kinds.{of_kind}
+use Rattle.gathering.proofs.Testing.{test_start, test_fails, test_on, test_end, kind_differs, kind_agrees}
+use Rattle.gathering.proofs.all_of_kind.Goals as goal
 
 pub loop-p-init : goal.loop-p-init
-loop-p-init c = test_start (of_kind c.args.kind)
+loop-p-init c = test_start {I = Unit} (λ i. of_kind c.args.kind)
 
 pub kind_of-requires : goal.kind_of-requires
 kind_of-requires c = let h = c.requires in holds (walked_first (omega arith) (c.loop-p.invariant h.0 h.1)).first-at
 
 pub returns-then-kind_of-kind : goal.returns-then-kind_of-kind
 returns-then-kind_of-kind c =
-    λ k vs e h. test_fails (of_kind c.args.kind) c.loop-p.invariant (omega arith) (k, e) (kind_differs c.kind_of.ensures c.if-kind_of-kind.true (k, e)) vs h
+    λ vs h. test_fails {I = Unit} (λ i. of_kind c.args.kind) c.loop-p.invariant (omega arith) tt (kind_differs c.kind_of.ensures c.if-kind_of-kind.true) vs h
 
 pub length_of-p-requires : goal.length_of-p-requires
 length_of-p-requires c = let h = c.requires in holds (walked_first (omega arith) (c.loop-p.invariant h.0 h.1)).first-at
@@ -28,7 +29,7 @@ loop-p-smaller c =
 
 pub loop-p-preserved : goal.loop-p-preserved
 loop-p-preserved c =
-    test_on (of_kind c.args.kind) c.loop-p.invariant (omega arith) (kind_agrees c.kind_of.ensures (omega arith)) _ c.length_of-p.ensures.is
+    test_on {I = Unit} (λ i. of_kind c.args.kind) c.loop-p.invariant (omega arith) (λ i. kind_agrees c.kind_of.ensures (omega arith)) _ c.length_of-p.ensures.is
 
 pub returns : goal.returns
-returns c = λ k vs e h. test_end (of_kind c.args.kind) c.loop-p.invariant (omega arith) (k, e) vs h
+returns c = λ vs h. test_end {I = Unit} (λ i. of_kind c.args.kind) c.loop-p.invariant (omega arith) tt vs h
