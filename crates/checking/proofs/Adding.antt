@@ -7,7 +7,6 @@ use Prim.Native.Nat.{ℕ, zero, suc, ◌+◌, ◌≤◌, ◌<◌}
 use native.Mathlib.Omega.{arith}
 use native.Mathlib.Numerals.{add-one}
 use borrow.Author.Tests.{lt-ltb}
-use lib.Bits.{bit_or, or_add_and, or_self, and_le_l, and_le_r}
 use lib.ListN.{length, get_or, set, length-set, take, replicate, length-replicate}
 use lib.Seq.{take_all, get_or-set_other}
 use Rattle.prelude.proofs.Absurd.{never}
@@ -80,7 +79,7 @@ bare_added rs below frees r left few h b l kept x e =
     (⊎_elim (λ k. inl (omega arith)) inr b) l
     (free_choice (record_at rs r) 0 0 (other 3 (omega arith) (omega arith))
     (choice_none (kind_at rs r) 0 (other 13 (omega arith) (omega arith)) (other 12 (omega arith) (omega arith))))
-    refl).sums refl)
+    refl).sums (alone_of 0 0) refl)
     (set left r x) below frees x e refl
     (set_own below r ∙ ap (set below r) (kept.zero_below r (omega arith))) (set_own frees r ∙ ap (set frees r) (kept.zero_frees r (omega arith)))
   where
@@ -152,20 +151,3 @@ module _ (rs : List Record) (left frees : List ℕ) (last : ℕ) (is_last : suc 
             by_test {P = has_bit (get_or frees last 0) (n + 2) ≡ false} (has_bit (get_or frees last 0) (n + 2))
             (λ e. never (sym (bound_last rs keeps.clear6 last n is_last) ∙ (p.allowed keeps last (omega arith)).bound n e)) (λ e. e));
       }
-
--- ---- numbers
-
-or_left : (a b : ℕ) → a ≤ bit_or a b
-or_left a b = omega (arith, or_add_and a b, and_le_r a b)
-
-or_right : (a b : ℕ) → b ≤ bit_or a b
-or_right a b = omega (arith, or_add_and a b, and_le_l a b)
-
--- Each entry passed is at most what they come to.
-pub or_more : (xs : List ℕ) (x y i : ℕ) → ((q : ℕ) → q < i → get_or xs q 0 ≤ x) → y ≡ bit_or x (get_or xs i 0) → (q : ℕ) → q < i + 1 → get_or xs q 0 ≤ y
-or_more xs x y i a e q h =
-    by_lower q i (λ k. omega (arith, a q k, or_left x (get_or xs i 0)))
-    (λ k. let same : get_or xs q 0 ≡ get_or xs i 0 = (let at : q ≡ i = omega arith in ap (λ (j : ℕ). get_or xs j 0) at) in omega (arith, or_right x (get_or xs i 0)))
-
-pub or-none : (xs : List ℕ) (x y i : ℕ) → x ≡ 0 → get_or xs i 0 ≡ 0 → y ≡ bit_or x (get_or xs i 0) → y ≡ 0
-or-none xs x y i e f g = g ∙ ap (λ (m : ℕ). bit_or m (get_or xs i 0)) e ∙ ap (bit_or 0) f ∙ or_self 0

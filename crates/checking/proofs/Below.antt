@@ -13,7 +13,7 @@ use Rattle.tables.specs.Record.{Record, Head, name, shape, size, head_of, named,
 use Rattle.tables.specs.Table.{record_at}
 use Rattle.tables.specs.Sheet.{is_loose}
 use Rattle.prelude.proofs.Truth.{by_lower}
-use Rattle.tables.proofs.Laws.Below.{OperandsLower as Lower, fold_at}
+use Rattle.tables.proofs.Laws.Below.{OperandsLower as Less, fold_at}
 use Rattle.tables.proofs.Laws.Accepted.{fit_least, fit_known}
 use Rattle.checking.specs.Scopes.{or_bits, or_bits_all, own, bits_below, Filled}
 
@@ -60,7 +60,7 @@ pub record Turn (rs : List Record) (r m i : ℕ) : Type 0 where
   pub within : i ≤ length (named (record_at rs r))
   pub is : or_bits_all m (map (bits_below rs) (drop i (named (record_at rs r)))) ≡ bits_below rs r
 
-pub turn_start : (rs : List Record) (r m : ℕ) → Lower rs → r < length rs → m ≡ own (record_at rs r) → Turn rs r m 0
+pub turn_start : (rs : List Record) (r m : ℕ) → Less rs → r < length rs → m ≡ own (record_at rs r) → Turn rs r m 0
 unfolding bits_below
 turn_start rs r m lower h e =
     record {

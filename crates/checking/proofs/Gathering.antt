@@ -1,4 +1,6 @@
 -- What a record and its operands come to, operand by operand.
+use Rattle.std.specs.Prelude.{Some, None, is_some}
+use Rattle.std.specs.Bool.{then_some}
 use mathlib.Core.Path.{◌≡◌, refl, sym, ap, subst, ◌∙◌}
 use mathlib.Core.Bool.{Bool, true, false, not, ◌&&◌, ◌||◌, cond}
 use mathlib.Core.List.{List, [], ◌∷◌, map, append-nil, append_assoc}
@@ -11,7 +13,7 @@ use lib.Dec.{eqb}
 use lib.ListN.{length, get_or, take}
 use lib.Seq.{take-suc, take_all}
 use mathlib.Mathlib.Data.Bool.Basic.{or_inl, or_inr, and_elim_left, and_elim_right}
-use Rattle.prelude.proofs.Absurd.{never}
+use Rattle.prelude.proofs.Absurd.{impossible, never}
 use Rattle.prelude.proofs.Truth.{by_lower, or_cases}
 use Rattle.tables.specs.declared.Role.{Role}
 use Rattle.tables.specs.declared.Role.TheVariants.{Plain, Condition, Body, Pattern, Name}
@@ -21,15 +23,13 @@ use Rattle.tables.specs.Table.{record_at, kind_at}
 use Rattle.tables.specs.Sheet.{some, is_in, loose, holds_name, is_covered, is_condition, is_binder, pattern_of}
 use Rattle.tables.specs.Check.{is_of_sort, all_named, named_before, is_bad, chooses}
 use Rattle.tables.specs.Accepted.{records}
-use Rattle.tables.specs.Reading.{Here}
 use Rattle.tables.proofs.Laws.Tests.{any_false}
 use Rattle.tables.proofs.Laws.Kinds.{binder_kind, binder_from, binder_most, plain_begins}
 use Rattle.tables.proofs.Laws.Accepted.{lower, operand_lower, operand_sort, operand_first, name_bound, choice_outside, fit_records, fit_kind}
 use Rattle.tables.specs.Check.{Clear6}
 use Rattle.checking.specs.declared.sweep.Sum.{Sum}
-use Rattle.checking.specs.declared.sweep.Handed.{Handed}
 use Rattle.checking.specs.Scopes.{has_bit, or_bits, own, bits_below}
-use Rattle.checking.specs.Sweeps.{without, apart, sort_of, Left, asked, is_named, hands, stops, covered_by, handed_on, choice_of, free_own, AskOperand, suits, Added, Adds, alone_of, one_role, names_of, AskKind, Passes, Allowed, Keeps, Known, Names, Gathered}
+use Rattle.checking.specs.Sweeps.{without, apart, sort_of, Left, asked, is_named, covered_by, handed_on, choice_of, free_own, AskOperand, suits, Added, Adds, alone_of, one_role, names_of, AskKind, Passes, Allowed, Keeps, Known, Names, Sums, Gathered}
 use Rattle.checking.proofs.Bits.{bit_union, bit_zero, bit-pow, held_name, held_loose, held_even}
 use Rattle.checking.proofs.Marks.{all_more}
 use Rattle.checking.proofs.Below.{Turn, turn_start, turn_more, turn_end}
@@ -37,6 +37,7 @@ use Rattle.checking.proofs.Shapes.{binder_expression, roles_many, one_role_lem, 
 use Rattle.checking.proofs.Leaving.{Due, due, left_take, sort_expression, sort_pattern, not_bad, clear}
 use Rattle.checking.proofs.Closing.{without_is, without_bit, low_bits, apart_bit, apart_all}
 use Rattle.checking.proofs.Allowing.{allowed_both, operand_fresh, condition_plain, allowed_up}
+use Rattle.checking.specs.Naming.{Listed}
 
 -- ---- what is free at a record by itself
 
@@ -161,54 +162,55 @@ record Hand (role : Role) (names held m o : ℕ) : Type 0 where
   from : (n : ℕ) → has_bit o n ≡ true → has_bit m n ≡ true
   taken : (n : ℕ) → has_bit o n ≡ true → is_covered role && has_bit names n ≡ false
 
-same_free : {h : Handed} {m : ℕ} → h ≡ hands m → h.free ≡ m
-same_free e = cc
-
-hand_all : (role : Role) (names held m : ℕ) (h : Handed) → is_covered role ≡ false → is_condition role ≡ false → h ≡ hands m → Hand role names held m h.free
-hand_all role names held m h a b e =
+hand_all : (role : Role) (names held m : ℕ) → is_covered role ≡ false → is_condition role ≡ false → Hand role names held m m
+hand_all role names held m a b =
     record {
-      pass = λ n f. or_inl (has_bit h.free n) _ (rw (same_free e) f);
+      pass = λ n f. or_inl (has_bit m n) _ f;
       outside = λ f. b;
       fresh = λ n f. rw a;
-      from = λ n f. sym (ap (λ (k : ℕ). has_bit k n) (same_free e)) ∙ f;
+      from = λ n f. f;
       taken = λ n f. rw a;
     }
 
-hand_covered : (role : Role) (names held m : ℕ) (h : Handed) → is_covered role ≡ true → (has_bit m 0 ≡ true → is_condition role ≡ false) → h ≡ covered_by names held m → h.fine ≡ true → Hand role names held m h.free
-hand_covered role names held m h a b e f = go (apart held names) refl e
+hand_covered : (role : Role) (names held m o : ℕ) → is_covered role ≡ true → (has_bit m 0 ≡ true → is_condition role ≡ false) → covered_by names held m ≡ Some o → Hand role names held m o
+hand_covered role names held m o a b e = go (apart held names) refl e
   where
-    off : h ≡ hands (without m names) → (n : ℕ) → has_bit h.free n ≡ true → has_bit m n && not (has_bit names n) ≡ true
-    off k n l = sym (without_is m names n) ∙ sym (ap (λ (q : ℕ). has_bit q n) (same_free k)) ∙ l
+    off : without m names ≡ o → (n : ℕ) → has_bit o n ≡ true → has_bit m n && not (has_bit names n) ≡ true
+    off k n l = sym (without_is m names n) ∙ ap (λ (q : ℕ). has_bit q n) k ∙ l
 
-    go : (t : Bool) → apart held names ≡ t → h ≡ cond t (hands (without m names)) stops → Hand role names held m h.free
+    go : (t : Bool) → apart held names ≡ t → then_some t (without m names) ≡ Some o → Hand role names held m o
     go true g k =
+        let is : without m names ≡ o = cc in
         record {
-          pass = λ n l. rw (same_free k, a) (without_bit m names n l);
+          pass = λ n l. rw (sym is, a) (without_bit m names n l);
           outside = b;
           fresh = λ n l. rw a (apart_bit held names n g l);
-          from = λ n l. and_elim_left (has_bit m n) (not (has_bit names n)) (off k n l);
-          taken = λ n l. rw a (not-true (has_bit names n) (and_elim_right (has_bit m n) (not (has_bit names n)) (off k n l)));
+          from = λ n l. and_elim_left (has_bit m n) (not (has_bit names n)) (off is n l);
+          taken = λ n l. rw a (not-true (has_bit names n) (and_elim_right (has_bit m n) (not (has_bit names n)) (off is n l)));
         }
-    go false g k = never (sym (ap (λ (x : Handed). x.fine) k) ∙ f)
+    go false g k = impossible cc
 
--- It is fine where no name is bound anew and a condition has no choice.
-hand_fine : (role : Role) (names held m : ℕ) → (is_covered role ≡ true → apart held names ≡ true) → (is_condition role ≡ true → has_bit m 0 ≡ false) → (handed_on role names held m).fine ≡ true
+-- Something is handed on where no name is bound anew and a condition has no choice.
+hand_fine : (role : Role) (names held m : ℕ) → (is_covered role ≡ true → apart held names ≡ true) → (is_condition role ≡ true → has_bit m 0 ≡ false) → is_some (handed_on role names held m) ≡ true
 hand_fine Plain names held m a b = refl
 hand_fine Condition names held m a b = rw (b refl, a refl)
 hand_fine Body names held m a b = rw (a refl)
 hand_fine Pattern names held m a b = refl
 hand_fine Name names held m a b = refl
 
-hand_of : (role : Role) (names held m : ℕ) (h : Handed) → h ≡ handed_on role names held m → h.fine ≡ true → Hand role names held m h.free
-hand_of Plain names held m h e f = hand_all Plain names held m h refl refl e
-hand_of Condition names held m h e f = go (has_bit m 0) refl e
+hand_plain : (role : Role) (names held m o : ℕ) → is_covered role ≡ false → is_condition role ≡ false → Some m ≡ Some o → Hand role names held m o
+hand_plain role names held m o a b e = let is : m ≡ o = cc in subst (λ (x : ℕ). Hand role names held m x) is (hand_all role names held m a b)
+
+hand_of : (role : Role) (names held m o : ℕ) → handed_on role names held m ≡ Some o → Hand role names held m o
+hand_of Plain names held m o e = hand_plain Plain names held m o refl refl e
+hand_of Condition names held m o e = go (has_bit m 0) refl e
   where
-    go : (t : Bool) → has_bit m 0 ≡ t → h ≡ cond t stops (covered_by names held m) → Hand Condition names held m h.free
-    go true g k = never (sym (ap (λ (x : Handed). x.fine) k) ∙ f)
-    go false g k = hand_covered Condition names held m h refl (λ l. never (sym g ∙ l)) k f
-hand_of Body names held m h e f = hand_covered Body names held m h refl (λ l. refl) e f
-hand_of Pattern names held m h e f = hand_all Pattern names held m h refl refl e
-hand_of Name names held m h e f = hand_all Name names held m h refl refl e
+    go : (t : Bool) → has_bit m 0 ≡ t → cond t None (covered_by names held m) ≡ Some o → Hand Condition names held m o
+    go true g k = impossible cc
+    go false g k = hand_covered Condition names held m o refl (λ l. never (sym g ∙ l)) k
+hand_of Body names held m o e = hand_covered Body names held m o refl (λ l. refl) e
+hand_of Pattern names held m o e = hand_plain Pattern names held m o refl refl e
+hand_of Name names held m o e = hand_plain Name names held m o refl refl e
 
 -- A record with an operand that its names cover is a binder.
 covered_some : (roles : List Role) (i : ℕ) → is_covered (get_or roles i Plain) ≡ true → some (map is_covered roles) ≡ true
@@ -260,6 +262,14 @@ passes_more rs q i m o p up h =
       fresh = h.fresh;
     }
 
+-- What is added was told by the tests.
+pub added_told : {rs : List Record} {role : Role} {n names : ℕ} {left left' below frees : List ℕ} {s t : Sum} → Added rs role n names left left' below frees s t → Adds rs role n names left left' below frees s (Some t)
+added_told {rs} {role} {n} {names} {left} {left'} {below} {frees} {s} {t} a =
+    record {
+      told = sym (rw (eq-eqb (get_or left n 0) (asked role) a.sort, a.kind, a.hands));
+      added = λ u e. let same : t ≡ u = cc in subst (Added rs role n names left left' below frees s) same a;
+    }
+
 -- ---- the operands of a record
 
 pub record Gathers (rs : List Record) (r : ℕ) (frees : List ℕ) (first : ℕ) (left : List ℕ) (s : Sum) (i : ℕ) : Type 0 where
@@ -267,7 +277,6 @@ pub record Gathers (rs : List Record) (r : ℕ) (frees : List ℕ) (first : ℕ)
   pub good : (j : ℕ) → j < i → is_bad rs r j ≡ false
   pub left_is : Left rs left r (named_before rs r i)
   pub held_is : Clear6 rs → Turn rs r s.held i
-  pub fine : s.fine ≡ true
   pub allowed : Keeps rs → Allowed rs r s.free
   pub up : (n : ℕ) → has_bit first n ≡ true → has_bit s.free n ≡ true
   pub pass : Clear6 rs → (j : ℕ) → j < i → Passes rs r j (get_or frees (operand (record_at rs r) j) 0) s.free
@@ -280,30 +289,28 @@ gathers_start rs r left frees held free s h l e names are own_is f =
       good = λ j k. absurd (omega arith);
       left_is = rw (append-nil (all_named (take r rs))) l;
       held_is = λ clear. turn_start rs r held (lower rs clear) h e;
-      fine = refl;
       allowed = λ keeps. rw own_is (own_allowed rs keeps r names h are);
       up = λ n f. f;
       pass = λ clear j k. absurd (omega arith);
     })
 
 -- What add_operand asks of operand n.
-pub ask_operand : {table index : List ℕ} {r : ℕ} {frees : List ℕ} {first : ℕ} {left : List ℕ} {s : Sum} {i : ℕ} (n : ℕ) → Here table index r → Gathers (records table) r frees first left s i → n < 256 → AskOperand table index n left
-ask_operand {table} {index} {r} {frees} {first} {left} {s} {i} n here g byte =
+pub ask_operand : {table : List ℕ} {r : ℕ} {frees : List ℕ} {first : ℕ} {left : List ℕ} {s : Sum} {i : ℕ} (n : ℕ) → Listed table r → Gathers (records table) r frees first left s i → n < 256 → AskOperand table n left
+ask_operand {table} {r} {frees} {first} {left} {s} {i} n here g byte =
     record {
-      indexed = here.indexed;
+      few = here.few;
       byte = byte;
       within = λ h. omega (arith, (due (records table) r (named_before (records table) r i) left n (get_or left n 0) g.left_is byte refl h).below, here.within);
     }
 
 module _ {rs : List Record} {r names : ℕ} {below frees : List ℕ} (kept : Known rs below frees r) (are : Names rs r names) (fit : (q : ℕ) → q < length rs → is_fit (record_at rs q) ≡ true) (in_table : r < length rs) where
-  gathers_more : {first : ℕ} {left left' : List ℕ} {s t : Sum} {i n : ℕ} {x : Role} → Gathers rs r frees first left s i → i < length (named (record_at rs r)) → n ≡ operand (record_at rs r) i → n < 256 → x ≡ role_at (record_at rs r) i → t.fine ≡ true → Added rs x n names left left' below frees s t → Gathers rs r frees first left' t (i + 1)
-  gathers_more {first} {left} {left'} {s} {t} {i} {n} {x} g has is byte role fine a =
+  gathers_more : {first : ℕ} {left left' : List ℕ} {s t : Sum} {i n : ℕ} {x : Role} → Gathers rs r frees first left s i → i < length (named (record_at rs r)) → n ≡ operand (record_at rs r) i → n < 256 → x ≡ role_at (record_at rs r) i → Added rs x n names left left' below frees s t → Gathers rs r frees first left' t (i + 1)
+  gathers_more {first} {left} {left'} {s} {t} {i} {n} {x} g has is byte role a =
       let due_is : Due rs r (named_before rs r i) n (asked x) = due rs r (named_before rs r i) left n (asked x) g.left_is byte a.sort (asked_some x) in
       let lw : n < r = due_is.below in
-      let handed : Handed = handed_on x names (get_or below n 0) (get_or frees n 0) in
       let mine : is_of_sort x (kind_at rs n) ≡ true = sort_right x (record_at rs n) (fit n (omega arith)) due_is.sort a.kind in
-      let hand : Hand (role_at (record_at rs r) i) names (get_or below n 0) (get_or frees n 0) handed.free =
-      subst (λ (y : Role). Hand y names (get_or below n 0) (get_or frees n 0) handed.free) role (hand_of x names (get_or below n 0) (get_or frees n 0) handed refl a.fine) in
+      let hand : Hand (role_at (record_at rs r) i) names (get_or below n 0) (get_or frees n 0) a.handed =
+      subst (λ (y : Role). Hand y names (get_or below n 0) (get_or frees n 0) a.handed) role (hand_of x names (get_or below n 0) (get_or frees n 0) a.handed a.hands) in
       record {
         within = omega arith;
         good =
@@ -313,21 +320,20 @@ module _ {rs : List Record} {r names : ℕ} {below frees : List ℕ} (kept : Kno
             rw (add-one i, take-suc (named (record_at rs r)) i 0 has, sym (append_assoc (all_named (take r rs)) (take i (named (record_at rs r))) (operand (record_at rs r) i ∷ [])), sym is)
             (left_take rs r (named_before rs r i) left left' n g.left_is byte lw a.left_is);
         held_is = λ clear. turn_more rs r s.held i t.held (get_or below n 0) (g.held_is clear) has (kept.held clear n lw ∙ ap (bits_below rs) is) a.held;
-        fine = fine;
         allowed =
             λ keeps.
             allowed_both (g.allowed keeps)
-            (allowed_up rs keeps r i in_table has (get_or frees n 0) handed.free (subst (λ (k : ℕ). Allowed rs k (get_or frees n 0)) is (kept.allowed keeps n lw)) hand.from
+            (allowed_up rs keeps r i in_table has (get_or frees n 0) a.handed (subst (λ (k : ℕ). Allowed rs k (get_or frees n 0)) is (kept.allowed keeps n lw)) hand.from
             (λ k f. sym (covered_is rs r names keeps.clear6 are i (k + 2) (holds_name rs (pattern_of rs r) k) (held_name rs (pattern_of rs r) k)) ∙ hand.taken (k + 2) f))
             a.free;
-        up = λ b l. rw a.free (union_left s.free handed.free b (g.up b l));
+        up = λ b l. rw a.free (union_left s.free a.handed b (g.up b l));
         pass =
             λ clear j l.
             split_at j l
-            (λ m o. passes_more rs r m (get_or frees (operand (record_at rs r) m) 0) s.free t.free (λ b p. rw a.free (union_left s.free handed.free b p)) (g.pass clear m o))
+            (λ m o. passes_more rs r m (get_or frees (operand (record_at rs r) m) 0) s.free t.free (λ b p. rw a.free (union_left s.free a.handed b p)) (g.pass clear m o))
             (subst (λ (k : ℕ). Passes rs r i (get_or frees k 0) t.free) is
-            (passes_more rs r i (get_or frees n 0) handed.free t.free (λ b p. rw a.free (union_right s.free handed.free b p))
-            (passes rs r names clear are i n (get_or frees n 0) (get_or below n 0) handed.free is (kept.held clear n lw) hand)));
+            (passes_more rs r i (get_or frees n 0) a.handed t.free (λ b p. rw a.free (union_right s.free a.handed b p))
+            (passes rs r names clear are i n (get_or frees n 0) (get_or below n 0) a.handed is (kept.held clear n lw) hand)));
       }
     where
       split_at : {P : ℕ → Type 0} (j : ℕ) → j < i + 1 → ((m : ℕ) → m < i → P m) → P i → P j
@@ -341,7 +347,7 @@ module _ {rs : List Record} {r names : ℕ} {below frees : List ℕ} (kept : Kno
       let right : is_of_sort x (kind_at rs n) ≡ true = rw (is, role) (operand_sort rs clear r i in_table has) in
       let new : is_in n (named_before rs r i) ≡ false = rw is (operand_first rs clear r i in_table has) in
       let sort : get_or left n 0 ≡ asked x = g.left_is.is n byte ∙ rw (lt-ltb n r lw, new) (sort_asked x (record_at rs n) (fit n (omega arith)) right) in
-      let fine : (handed_on x names (get_or below n 0) (get_or frees n 0)).fine ≡ true =
+      let fine : is_some (handed_on x names (get_or below n 0) (get_or frees n 0)) ≡ true =
       rw role
       (hand_fine (role_at (record_at rs r) i) names (get_or below n 0) (get_or frees n 0) (λ c. apart_all (get_or below n 0) names (λ k f. new-name keeps i n k has is c (held_is clear n k lw f)))
       (condition_plain rs keeps r i in_table has (get_or frees n 0) (subst (λ (k : ℕ). Allowed rs k (get_or frees n 0)) is (kept.allowed keeps n lw)))) in
@@ -356,13 +362,15 @@ module _ {rs : List Record} {r names : ℕ} {below frees : List ℕ} (kept : Kno
           (covered_is rs r names keeps.clear6 are i (k + 2) (holds_name rs (pattern_of rs r) k) (held_name rs (pattern_of rs r) k)
           ∙ operand_fresh rs keeps r i in_table has k (rw is at f))
 
-pub gathers_end : {rs : List Record} {r names : ℕ} {left frees : List ℕ} {s : Sum} {i first : ℕ} → r < length rs → Names rs r names → first ≡ free_own (record_at rs r) names → Gathers rs r frees first left s i → length (named (record_at rs r)) ≤ i → Gathered rs r left frees s
+pub gathers_end : {rs : List Record} {r names : ℕ} {left frees : List ℕ} {s : Sum} {i first : ℕ} → r < length rs → Names rs r names → first ≡ free_own (record_at rs r) names → Gathers rs r frees first left s i → length (named (record_at rs r)) ≤ i → Gathered rs r left frees (Some s)
 gathers_end {rs} {r} {names} {left} {frees} {s} {i} {first} h are own_is g l =
     record {
-      told = λ keeps. g.fine;
+      told = λ keeps. refl;
       sums =
-          λ e.
-          record {
+          λ t e.
+          let same : s ≡ t = cc in
+          subst (Sums rs r left frees) same
+          (record {
             good = any_false (is_bad rs r) (length (named (record_at rs r))) (λ j k. g.good j (omega arith));
             left_is = rw (all_more rs r h, sym (take_all i (named (record_at rs r)) l)) g.left_is;
             held = λ clear. turn_end rs r s.held i (g.held_is clear) l;
@@ -374,12 +382,12 @@ gathers_end {rs} {r} {names} {left} {frees} {s} {i} {first} h are own_is g l =
                   pass = λ j k. g.pass clear j (omega arith);
                 };
             allowed = g.allowed;
-          };
+          });
     }
 
 -- A record stops where one of its operands does not suit.
-pub stopped : {rs : List Record} {r : ℕ} {left frees : List ℕ} {s : Sum} → s.fine ≡ false → (Keeps rs → s.fine ≡ true) → Gathered rs r left frees s
-stopped e told = record { told = told; sums = λ f. never (sym e ∙ f) }
+stopped : {rs : List Record} {r : ℕ} {left frees : List ℕ} → (Keeps rs → false ≡ true) → Gathered rs r left frees None
+stopped told = record { told = told; sums = λ t f. impossible cc }
 
 -- ---- the names that a record binds
 
@@ -399,7 +407,7 @@ pattern_names {rs} {below} {frees} {r} {p} {m} kept h has is e =
 
 -- ---- records by kind
 
-module _ {table index : List ℕ} {r kind : ℕ} {left below frees : List ℕ} (ask : AskKind table index r kind left below frees) where
+module _ {table : List ℕ} {r kind : ℕ} {left below frees : List ℕ} (ask : AskKind table r kind left below frees) where
   pub fit_here : is_fit (record_at (records table) r) ≡ true
   fit_here = fit_records table r ask.ask.here.within
 
@@ -407,12 +415,12 @@ module _ {table index : List ℕ} {r kind : ℕ} {left below frees : List ℕ} (
   kind_most = omega (arith, ask.is, fit_kind (record_at (records table) r) fit_here)
 
   -- One more operand of the record.
-  pub operand_more : {names first : ℕ} {now next : List ℕ} {s t : Sum} {i n : ℕ} {x : Role} → Names (records table) r names → Gathers (records table) r frees first now s i → i < length (named (record_at (records table) r)) → n ≡ operand (record_at (records table) r) i → n < 256 → x ≡ role_at (record_at (records table) r) i → Adds (records table) x n names now next below frees s t → t.fine ≡ true → Gathers (records table) r frees first next t (i + 1)
-  operand_more are g has is byte role a fine = gathers_more ask.ask.kept are (fit_records table) ask.ask.here.within g has is byte role fine (a.added fine)
+  pub operand_more : {names first : ℕ} {now next : List ℕ} {s t : Sum} {i n : ℕ} {x : Role} → Names (records table) r names → Gathers (records table) r frees first now s i → i < length (named (record_at (records table) r)) → n ≡ operand (record_at (records table) r) i → n < 256 → x ≡ role_at (record_at (records table) r) i → Adds (records table) x n names now next below frees s (Some t) → Gathers (records table) r frees first next t (i + 1)
+  operand_more {t = t} are g has is byte role a = gathers_more ask.ask.kept are (fit_records table) ask.ask.here.within g has is byte role (a.added t refl)
 
-  -- An operand that is not fine breaks a rule.
-  pub operand_stops : {names first : ℕ} {now next last : List ℕ} {s t : Sum} {i n : ℕ} {x : Role} → Names (records table) r names → Gathers (records table) r frees first now s i → i < length (named (record_at (records table) r)) → n ≡ operand (record_at (records table) r) i → n < 256 → x ≡ role_at (record_at (records table) r) i → Adds (records table) x n names now next below frees s t → t.fine ≡ false → Gathered (records table) r last frees t
-  operand_stops are g has is byte role a off = stopped off (λ keeps. a.told ∙ operand_suits ask.ask.kept are (fit_records table) ask.ask.here.within keeps g has is byte role)
+  -- An operand that does not suit breaks a rule.
+  pub operand_stops : {names first : ℕ} {now next last : List ℕ} {s : Sum} {i n : ℕ} {x : Role} → Names (records table) r names → Gathers (records table) r frees first now s i → i < length (named (record_at (records table) r)) → n ≡ operand (record_at (records table) r) i → n < 256 → x ≡ role_at (record_at (records table) r) i → Adds (records table) x n names now next below frees s None → Gathered (records table) r last frees None
+  operand_stops are g has is byte role a = stopped (λ keeps. a.told ∙ operand_suits ask.ask.kept are (fit_records table) ask.ask.here.within keeps g has is byte role)
 
 -- A record that binds nothing and reads no name.
 pub record BindsNothing (rs : List Record) (r kind : ℕ) : Type 0 where
@@ -420,8 +428,8 @@ pub record BindsNothing (rs : List Record) (r kind : ℕ) : Type 0 where
   pub free : 0 ≡ free_own (record_at rs r) 0
   pub role : (i : ℕ) → i < length (named (record_at rs r)) → one_role kind ≡ role_at (record_at rs r) i
 
-pub binds_nothing : {table index : List ℕ} {r kind : ℕ} {left below frees : List ℕ} → AskKind table index r kind left below frees → 3 < kind → is_binder kind ≡ false → BindsNothing (records table) r kind
-binds_nothing {table} {index} {r} {kind} ask h e =
+pub binds_nothing : {table : List ℕ} {r kind : ℕ} {left below frees : List ℕ} → AskKind table r kind left below frees → 3 < kind → is_binder kind ≡ false → BindsNothing (records table) r kind
+binds_nothing {table} {r} {kind} ask h e =
     let none : is_binder (kind_at (records table) r) ≡ false = ap is_binder (sym ask.is) ∙ e in
     let outside : (n : ℕ) → 12 ≤ n → n ≤ 20 → kind_at (records table) r ≡ n → ⊥ = λ n l m f. never (sym none ∙ binder_kind (kind_at (records table) r) (omega arith) (omega arith)) in
     record {
@@ -443,8 +451,8 @@ pub record Binds (rs : List Record) (r kind : ℕ) : Type 0 where
   pub second : Plain ≡ role_at (record_at rs r) 1
   pub body : (i : ℕ) → 3 ≤ i → i < length (named (record_at rs r)) → Body ≡ role_at (record_at rs r) i
 
-pub binder_is : {table index : List ℕ} {r kind : ℕ} {left below frees : List ℕ} → AskKind table index r kind left below frees → is_binder kind ≡ true → Binds (records table) r kind
-binder_is {table} {index} {r} {kind} ask e =
+pub binder_is : {table : List ℕ} {r kind : ℕ} {left below frees : List ℕ} → AskKind table r kind left below frees → is_binder kind ≡ true → Binds (records table) r kind
+binder_is {table} {r} {kind} ask e =
     let binder : is_binder (kind_at (records table) r) ≡ true = ap is_binder (sym ask.is) ∙ e in
     let three : 3 ≤ length (named (record_at (records table) r)) = binder_some (record_at (records table) r) (fit_here ask) binder in
     record {
@@ -459,7 +467,7 @@ binder_is {table} {index} {r} {kind} ask e =
     }
 
 -- The names of a binder's pattern, and what has been gathered before its first operand.
-module _ {table index : List ℕ} {r kind : ℕ} {left below frees : List ℕ} (ask : AskKind table index r kind left below frees) (binder : is_binder kind ≡ true) where
+module _ {table : List ℕ} {r kind : ℕ} {left below frees : List ℕ} (ask : AskKind table r kind left below frees) (binder : is_binder kind ≡ true) where
   pub binder_names : {p names : ℕ} → p ≡ operand (record_at (records table) r) 0 → names ≡ names_of below r p → Names (records table) r names
   binder_names is e = pattern_names ask.ask.kept ask.ask.here.within (omega (arith, (binder_is ask binder).some_named)) is e
 
@@ -469,7 +477,7 @@ module _ {table index : List ℕ} {r kind : ℕ} {left below frees : List ℕ} (
       gathers_start (records table) r left frees 0 (choice_of kind names) s ask.ask.here.within ask.ask.left_is b.own_is names are (b.free names) (f ∙ ap (alone_of 0) e)
 
 -- A record without operands.
-pub leaf_sums : (rs : List Record) (r : ℕ) (left frees : List ℕ) (s : Sum) (free : ℕ) → r < length rs → NoOperand (kind_at rs r) → Left rs left r (all_named (take r rs)) → free ≡ free_own (record_at rs r) 0 → s ≡ alone_of 0 free → Gathered rs r left frees s
+pub leaf_sums : (rs : List Record) (r : ℕ) (left frees : List ℕ) (s : Sum) (free : ℕ) → r < length rs → NoOperand (kind_at rs r) → Left rs left r (all_named (take r rs)) → free ≡ free_own (record_at rs r) 0 → s ≡ alone_of 0 free → Gathered rs r left frees (Some s)
 leaf_sums rs r left frees s free h b l f e =
     gathers_end h (no_names rs r (leaf_free (kind_at rs r) b)) f
     (gathers_start rs r left frees 0 free s h l (leaf_own (record_at rs r) b) 0 (no_names rs r (leaf_free (kind_at rs r) b)) f e)

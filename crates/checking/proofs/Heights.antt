@@ -1,4 +1,7 @@
 -- Heights: whether a record is low, told operand by operand; heights noted record by record; the lowest record that is too high.
+use Rattle.std.specs.Prelude.{Option, Some, None, MatchOption, unwrap_or}
+use Rattle.std.specs.Ordering.{ord_max, nat_cmp}
+use Rattle.std.proofs.lemmas.Bool.Decides.{nat_tests}
 use mathlib.Core.Path.{◌≡◌, refl, sym, ap, ◌∙◌}
 use mathlib.Core.Bool.{true, false, not, ◌||◌, cond}
 use mathlib.Core.List.{List, [], ◌∷◌, map}
@@ -13,16 +16,17 @@ use Rattle.prelude.proofs.Truth.{by_lower, both_ways, implied}
 use Rattle.tables.specs.Record.{Record, last_kind, shape, is_leaf, is_fit, named, operand}
 use Rattle.tables.specs.Shapes.{first_of}
 use Rattle.tables.specs.Table.{record_at, kind_at}
-use Rattle.tables.specs.Sheet.{lowest, greatest, height}
+use Rattle.tables.specs.Sheet.{greatest, height}
 use Rattle.tables.specs.Check.{most_height, fault9}
-use Rattle.tables.proofs.Laws.Tests.{low, low_same}
 use Rattle.tables.proofs.Laws.Kinds.{each_kind}
 use Rattle.tables.proofs.Laws.Through.{EachTo, each_start, each_next}
 use Rattle.tables.proofs.Laws.Operands.{greatest_most}
 use Rattle.tables.proofs.Laws.Accepted.{fit_kind, operand_lower, height-at, height_operand}
 use Rattle.tables.specs.Check.{Clear6}
 use Rattle.checking.specs.Scopes.{Filled}
-use Rattle.checking.specs.Heights.{LastLow, LeafFirst}
+use Rattle.checking.specs.Answer.{found}
+use Rattle.checking.specs.Heights.{Hangs, LeafFirst}
+use Rattle.checking.proofs.Scan.{found_is}
 use Rattle.checking.proofs.Shapes.{roles_many}
 use Rattle.checking.proofs.Reaching.{from_last}
 
@@ -46,11 +50,16 @@ leaf_operands x fit e =
     let none : length (shape x.kind).roles ≡ 0 = eqb-true _ 0 (implied (is_leaf x.kind) _ (each_kind (λ k. not (is_leaf k) || eqb (length (shape k).roles) 0) refl x.kind (fit_kind x fit)) e) in
     omega (arith, roles_many x)
 
+-- std's `max` is that of numbers.
+pub max_is : (a b : ℕ) → ord_max nat_cmp a b ≡ max a b
+max_is a b = grind (arith, nat_tests)
+
 -- ---- the first leaves
 
-pub leaf_more : (rs : List Record) (count n : ℕ) → LeafFirst rs count n → n < count → is_leaf (kind_at rs n) ≡ true → LeafFirst rs count (n + 1)
-leaf_more rs count n so h e =
-    record { within = omega arith; leaf = λ r l. by_lower r n (λ k. so.leaf r k) (λ k. let same : r ≡ n = omega arith in ap (λ (q : ℕ). is_leaf (kind_at rs q)) same ∙ e) }
+-- The records before the first that is no leaf, or all where each is one.
+pub leaves_first : (rs : List Record) (n : ℕ) (r : Option ℕ) → MatchOption r ((k : ℕ) → 0 ≤ k → k < n → is_leaf (kind_at rs k) ≡ true) (λ i. (0 ≤ i) × (i < n) × Unit {0} × ((k : ℕ) → 0 ≤ k → k < i → is_leaf (kind_at rs k) ≡ true)) → LeafFirst rs n (unwrap_or r n)
+leaves_first rs n None m = record { within = omega arith; leaf = λ r h. m r (omega arith) h }
+leaves_first rs n (Some i) m = record { within = omega (arith, m.1); leaf = λ r h. m.3 r (omega arith) h }
 
 -- ---- the height of one record
 
@@ -62,13 +71,6 @@ pub record Going (rs : List Record) (r high i : ℕ) : Type 0 where
 -- The operands of record r before i are at most so high.
 abbrev pub LowTo : List Record → ℕ → ℕ → ℕ → Type 0
 LowTo rs r most i = EachTo (λ q. height rs q ≤ most) (record_at rs r) i
-
--- Operand i of record r is n, and those before it are at most so high.
-pub record Turn (rs : List Record) (r most last n i : ℕ) : Type 0 where
-  pub within : i ≤ last
-  pub is : n ≡ operand (record_at rs r) i
-  pub byte : n < 256
-  pub low : LowTo rs r most i
 
 -- Whether record r is at most so high is whether q is, which lies at or below it and has room left.
 pub record Down (rs : List Record) (r most q room : ℕ) : Type 0 where
@@ -119,20 +121,19 @@ module _ (rs : List Record) (clear : Clear6 rs) where
     -- ---- all operands but the last
 
     module _ (most i n : ℕ) (has : i < length (named (record_at rs r))) (is : n ≡ operand (record_at rs r) i) where
-      pub operand_high : leb (height rs n) most ≡ false → LastLow rs r most 256
+      pub operand_high : leb (height rs n) most ≡ false → suc most < height rs r
       operand_high e =
           let same : height rs n ≡ height rs (operand (record_at rs r) i) = ap (height rs) is in
-          record { lower = λ f. absurd (f refl); low = λ f. absurd (f refl); high = λ d. omega (arith, leb-false (height rs n) most e, height_operand rs clear r i in_table has) }
+          omega (arith, leb-false (height rs n) most e, height_operand rs clear r i in_table has)
 
-      pub operand_last : suc i ≡ length (named (record_at rs r)) → n < 256 → LowTo rs r most i → LastLow rs r most n
-      operand_last last byte so =
+      pub operand_last : suc i ≡ length (named (record_at rs r)) → LowTo rs r most i → Hangs rs r most n
+      operand_last last so =
           let same : height rs n ≡ height rs (operand (record_at rs r) i) = ap (height rs) is in
           record {
-            lower = λ f. omega (arith, operand_lower rs clear r i in_table has);
-            low = λ l. both_ways (leb (height rs r) (suc most)) (leb (height rs n) most)
+            lower = omega (arith, operand_lower rs clear r i in_table has);
+            low = both_ways (leb (height rs r) (suc most)) (leb (height rs n) most)
                 (λ e. le-leb (height rs n) most (omega (arith, leb-true (height rs r) (suc most) e, height_operand rs clear r i in_table has)))
                 (λ e. le-leb (height rs r) (suc most) (all_low most (i + 1) (low_more most i n is so (leb-true (height rs n) most e)) (omega arith)));
-            high = λ e. absurd (omega arith);
           }
 
     -- ---- down to the last operand
@@ -147,13 +148,13 @@ module _ (rs : List Record) (clear : Clear6 rs) where
       pub down_leaf : is_fit (record_at rs q) ≡ true → is_leaf (kind_at rs q) ≡ true → true ≡ leb (height rs r) most
       down_leaf fit e = down_bare (leaf_operands (record_at rs q) fit e)
 
-      module _ (room' n : ℕ) (less : suc room' ≡ room) (last : LastLow rs q room' n) where
-        pub down_high : n ≡ 256 → false ≡ leb (height rs r) most
-        down_high e = sym (down.same ∙ lt-leb (height rs q) room (omega (arith, last.high e)))
+      module _ (room' : ℕ) (less : suc room' ≡ room) where
+        pub down_high : suc room' < height rs q → false ≡ leb (height rs r) most
+        down_high high = sym (down.same ∙ lt-leb (height rs q) room (omega (arith, high)))
 
-        pub down_more : 0 < room' → (n ≡ 256 → ⊥) → Down rs r most n room'
-        down_more some other =
-            record { within = omega (arith, down.within, last.lower other); some = some; same = down.same ∙ ap (leb (height rs q)) (sym less) ∙ last.low other }
+        pub down_more : {n : ℕ} → 0 < room' → Hangs rs q room' n → Down rs r most n room'
+        down_more some last =
+            record { within = omega (arith, down.within, last.lower); some = some; same = down.same ∙ ap (leb (height rs q)) (sym less) ∙ last.low }
 
       pub down_end : (k : ℕ) → room ≤ 1 → k ≡ length (named (record_at rs q)) → eqb k 0 ≡ leb (height rs r) most
       down_end k one is =
@@ -182,23 +183,25 @@ module _ (rs : List Record) (clear : Clear6 rs) where
 
   -- ---- all records
 
-  -- The lowest that is too high, where all records before it are low.
-  pub tall_first : (n r : ℕ) → r ≤ n → ((q : ℕ) → q < r → height rs q ≤ most_height) → (r < n → most_height < height rs r) → r ≡ lowest (fault9 rs) n
+  -- The lowest that is too high, where all records before it are low; none, where all are.
+  pub tall_first : (n r : ℕ) → r < n → ((q : ℕ) → q < r → height rs q ≤ most_height) → most_height < height rs r → Some r ≡ found (fault9 rs) n
   unfolding fault9
   tall_first n r w a h =
-      low_same (fault9 rs) (record { within = w; hit = λ k. lt-ltb most_height (height rs r) (h k); miss = λ q k. le-ltb most_height (height rs q) (a q k) })
-      (low (fault9 rs) n)
+      found_is (fault9 rs) n (Some r) (w, lt-ltb most_height (height rs r) h, λ q k. le-ltb most_height (height rs q) (a q k))
+
+  pub none_tall : (n : ℕ) → ((q : ℕ) → q < n → height rs q ≤ most_height) → None ≡ found (fault9 rs) n
+  unfolding fault9
+  none_tall n a = found_is (fault9 rs) n None (λ q k. le-ltb most_height (height rs q) (a q k))
 
   module _ (n : ℕ) (all : n ≡ length rs) where
     -- No record is higher than one more than there are records behind the first leaves.
-    pub few_low : (leaves : ℕ) → ((r : ℕ) → r < leaves → height rs r ≡ 1) → n < leaves + most_height → n ≡ lowest (fault9 rs) n
-    few_low leaves leaf l = tall_first n n (omega arith) (λ q k. omega (arith, height_most leaves leaf (suc q) q (omega arith) (omega arith))) (λ k. absurd (omega arith))
+    pub few_low : (leaves : ℕ) → ((r : ℕ) → r < leaves → height rs r ≡ 1) → n < leaves + most_height → None ≡ found (fault9 rs) n
+    few_low leaves leaf l = none_tall n (λ q k. omega (arith, height_most leaves leaf (suc q) q (omega arith) (omega arith)))
 
     module _ (last : ℕ) (is_last : suc last ≡ n) where
       -- No record is higher than the last.
-      pub last_low : true ≡ leb (height rs last) most_height → n ≡ lowest (fault9 rs) n
+      pub last_low : true ≡ leb (height rs last) most_height → None ≡ found (fault9 rs) n
       last_low e =
-          tall_first n n (omega arith)
+          none_tall n
           (λ q k.
           omega (arith, leb-true (height rs last) most_height (sym e), from_last rs clear (λ r. height rs r ≤ height rs last) last (omega arith) (omega arith) (λ q i h k l. omega (arith, height_operand rs clear q i h k)) q (omega arith)))
-          (λ k. absurd (omega arith))

@@ -1,24 +1,28 @@
 -- Marks at the numbers that are named, operand by operand and record by record.
+use Rattle.std.specs.Prelude.{Option, None, is_some, unwrap_or}
+use Rattle.std.specs.Option.{option_or}
+use Rattle.std.specs.Bool.{then_some}
 use mathlib.Core.Path.{◌≡◌, refl, sym, ap, ◌∙◌}
-use mathlib.Core.Bool.{Bool, true, false, not, ◌||◌, or-false, cond}
+use mathlib.Core.Bool.{Bool, true, false, not, ◌||◌, or-false}
 use mathlib.Core.List.{List, [], ◌∷◌, ◌++◌, append-nil, append_assoc}
-use Prim.Native.Nat.{ℕ, suc, ◌+◌, ◌≤◌, ◌<◌, min}
+use Prim.Native.Nat.{ℕ, suc, ◌+◌, ◌≤◌, ◌<◌}
 use native.Mathlib.Omega.{arith}
 use native.Mathlib.Numerals.{add-one}
 use borrow.Author.Tests.{eq-eqb, ne_eqb, lt-ltb, le-ltb}
-use lib.Dec.{eqb, ltb}
+use lib.Dec.{eqb}
 use lib.ListN.{length, take, set, length-set, replicate, length-replicate, get_or-replicate}
 use lib.Seq.{get_or-set_same, get_or-set_other, take-suc, take_all}
 use mathlib.Mathlib.Data.Bool.Basic.{or_inr}
 use Rattle.tables.specs.declared.Role.{Role}
 use Rattle.tables.specs.Record.{Record, is_pattern, named, operand, role_at}
 use Rattle.tables.specs.Table.{no_record, record_at, kind_at}
-use Rattle.tables.specs.Sheet.{any, lowest, is_in}
+use Rattle.tables.specs.Sheet.{any, is_in}
 use Rattle.tables.specs.Check.{is_of_sort, all_named, named_before, is_bad, has_bad, is_stray, fault6}
 use Rattle.prelude.proofs.Truth.{by_lower}
 use Rattle.tables.proofs.Laws.Tests.{in_append}
 use Rattle.tables.specs.Accepted.{records}
-use Rattle.checking.proofs.Scan.{low_more, lowest_either}
+use Rattle.checking.specs.Answer.{found}
+use Rattle.checking.proofs.Scan.{found_next, found_stays, found_either}
 use Rattle.checking.specs.Naming.{Marked, MarkedOne, MarkedNext, MarkedAll}
 
 -- ---- one mark
@@ -29,21 +33,21 @@ in_more m n ms ne = in_append m ms (n ∷ []) ∙ ap (λ (b : Bool). is_in m ms 
 pub in_last : (n : ℕ) (ms : List ℕ) → is_in n (ms ++ (n ∷ [])) ≡ true
 in_last n ms = in_append n ms (n ∷ []) ∙ or_inr (is_in n ms) (eqb n n || false) (ap (λ (b : Bool). b || false) (eq-eqb n n refl))
 
-pub mark_one : (marks ms : List ℕ) (n : ℕ) → n < 200 → Marked marks ms → Marked (set marks n 1) (ms ++ (n ∷ []))
+pub mark_one : (marks : List Bool) (ms : List ℕ) (n : ℕ) → n < 200 → Marked marks ms → Marked (set marks n true) (ms ++ (n ∷ []))
 mark_one marks ms n h m =
     record {
-      long = length-set marks n 1 ∙ m.long;
+      long = length-set marks n true ∙ m.long;
       is =
           λ k l.
-          by_lower k n (λ a. rw (get_or-set_other marks n k 1 0 (λ e. omega arith), in_more k n ms (λ e. omega arith)) (m.is k l))
+          by_lower k n (λ a. rw (get_or-set_other marks n k true false (λ e. omega arith), in_more k n ms (λ e. omega arith)) (m.is k l))
           (λ a.
-          by_lower n k (λ b. rw (get_or-set_other marks n k 1 0 (λ e. omega arith), in_more k n ms (λ e. omega arith)) (m.is k l))
+          by_lower n k (λ b. rw (get_or-set_other marks n k true false (λ e. omega arith), in_more k n ms (λ e. omega arith)) (m.is k l))
           (λ b.
           let same : k ≡ n = omega arith in
-          rw (same, get_or-set_same marks n 1 0 (omega (arith, m.long)), in_last n ms)));
+          rw (same, get_or-set_same marks n true false (omega (arith, m.long)), in_last n ms)));
     }
 
-pub mark_beyond : (marks ms : List ℕ) (n : ℕ) → 200 ≤ n → Marked marks ms → Marked marks (ms ++ (n ∷ []))
+pub mark_beyond : (marks : List Bool) (ms : List ℕ) (n : ℕ) → 200 ≤ n → Marked marks ms → Marked marks (ms ++ (n ∷ []))
 mark_beyond marks ms n h m = record { long = m.long; is = λ k l. rw (in_more k n ms (λ e. omega arith)) (m.is k l) }
 
 -- ---- one operand
@@ -66,15 +70,15 @@ sort_is rs r i n role k b e f g = rw (sym e, sym f) (sym g)
 
 -- ---- the operands of a record
 
-pub record Operands (rs : List Record) (r : ℕ) (marks : List ℕ) (bad : Bool) (i : ℕ) : Type 0 where
+pub record Operands (rs : List Record) (r : ℕ) (marks : List Bool) (bad : Bool) (i : ℕ) : Type 0 where
   pub within : i ≤ length (named (record_at rs r))
   pub is : bad ≡ any (is_bad rs r) i
   pub marked : Marked marks (named_before rs r i)
 
-pub operands_start : (rs : List Record) (r : ℕ) (marks : List ℕ) → Marked marks (all_named (take r rs)) → Operands rs r marks false 0
+pub operands_start : (rs : List Record) (r : ℕ) (marks : List Bool) → Marked marks (all_named (take r rs)) → Operands rs r marks false 0
 operands_start rs r marks m = record { within = omega arith; is = refl; marked = rw (append-nil (all_named (take r rs))) m }
 
-pub operands_more : (rs : List Record) (r i n : ℕ) (marks marks' : List ℕ) (bad bad' fault : Bool) → Operands rs r marks bad i → i < length (named (record_at rs r)) → n ≡ operand (record_at rs r) i → fault ≡ is_bad rs r i → bad' ≡ bad || fault → Marked marks' (named_before rs r i ++ (n ∷ [])) → Operands rs r marks' bad' (i + 1)
+pub operands_more : (rs : List Record) (r i n : ℕ) (marks marks' : List Bool) (bad bad' fault : Bool) → Operands rs r marks bad i → i < length (named (record_at rs r)) → n ≡ operand (record_at rs r) i → fault ≡ is_bad rs r i → bad' ≡ bad || fault → Marked marks' (named_before rs r i ++ (n ∷ [])) → Operands rs r marks' bad' (i + 1)
 operands_more rs r i n marks marks' bad bad' fault o h is e f m =
     record {
       within = omega arith;
@@ -84,14 +88,14 @@ operands_more rs r i n marks marks' bad bad' fault o h is e f m =
     }
 
 -- After i operands of record r, the marks alone.
-pub record Names (rs : List Record) (r : ℕ) (marks : List ℕ) (i : ℕ) : Type 0 where
+pub record Names (rs : List Record) (r : ℕ) (marks : List Bool) (i : ℕ) : Type 0 where
   pub within : i ≤ length (named (record_at rs r))
   pub marked : Marked marks (named_before rs r i)
 
-pub names_start : (rs : List Record) (r : ℕ) (marks : List ℕ) → Marked marks (all_named (take r rs)) → Names rs r marks 0
+pub names_start : (rs : List Record) (r : ℕ) (marks : List Bool) → Marked marks (all_named (take r rs)) → Names rs r marks 0
 names_start rs r marks m = record { within = omega arith; marked = rw (append-nil (all_named (take r rs))) m }
 
-pub names_more : (rs : List Record) (r i n : ℕ) (marks : List ℕ) → i < length (named (record_at rs r)) → n ≡ operand (record_at rs r) i → Marked marks (named_before rs r i ++ (n ∷ [])) → Names rs r marks (i + 1)
+pub names_more : (rs : List Record) (r i n : ℕ) (marks : List Bool) → i < length (named (record_at rs r)) → n ≡ operand (record_at rs r) i → Marked marks (named_before rs r i ++ (n ∷ [])) → Names rs r marks (i + 1)
 names_more rs r i n marks h is m =
     record {
       within = omega arith;
@@ -109,7 +113,7 @@ all_more rs r h =
     ap all_named (take-suc rs r no_record h) ∙ all_append (take r rs) (record_at rs r ∷ [])
     ∙ ap (λ (ns : List ℕ). all_named (take r rs) ++ ns) (append-nil (named (record_at rs r)))
 
-pub operands_end : (table : List ℕ) (r : ℕ) (marks : List ℕ) (bad : Bool) (i : ℕ) → r < length (records table) → Operands (records table) r marks bad i → length (named (record_at (records table) r)) ≤ i → MarkedOne table r marks bad
+pub operands_end : (table : List ℕ) (r : ℕ) (marks : List Bool) (bad : Bool) (i : ℕ) → r < length (records table) → Operands (records table) r marks bad i → length (named (record_at (records table) r)) ≤ i → MarkedOne table r marks bad
 operands_end table r marks bad i h o l =
     let all : i ≡ length (named (record_at (records table) r)) = omega (arith, o.within) in
     record {
@@ -118,34 +122,34 @@ operands_end table r marks bad i h o l =
           rw (all_more (records table) r h, sym (take_all i (named (record_at (records table) r)) l)) o.marked;
     }
 
-pub names_end : (rs : List Record) (r i : ℕ) (marks : List ℕ) → r < length rs → Names rs r marks i → length (named (record_at rs r)) ≤ i → Marked marks (all_named (take (suc r) rs))
+pub names_end : (rs : List Record) (r i : ℕ) (marks : List Bool) → r < length rs → Names rs r marks i → length (named (record_at rs r)) ≤ i → Marked marks (all_named (take (suc r) rs))
 names_end rs r i marks h o l = rw (all_more rs r h, sym (take_all i (named (record_at rs r)) l)) o.marked
 
 -- ---- all records
 
 -- What is found stays.
-pub next_found : (table marks : List ℕ) (l r : ℕ) → l ≡ lowest (has_bad (records table)) r → l < r → Marked marks (all_named (take (suc r) (records table))) → MarkedNext table r marks l
+pub next_found : (table : List ℕ) (marks : List Bool) (l : Option ℕ) (r : ℕ) → l ≡ found (has_bad (records table)) r → is_some l ≡ true → Marked marks (all_named (take (suc r) (records table))) → MarkedNext table r marks l
 next_found table marks l r e h m =
-    record { is = low_more (has_bad (records table)) l r l (has_bad (records table) r) e refl (sym (rw (lt-ltb l r h))); marked = m }
+    record { is = found_stays (has_bad (records table)) l r e h; marked = m }
 
-pub next_marked : (table marks : List ℕ) (l r p : ℕ) (bad : Bool) → l ≡ lowest (has_bad (records table)) r → MarkedOne table r marks bad → p ≡ cond (ltb l r) l (cond bad r (suc r)) → MarkedNext table r marks p
-next_marked table marks l r p bad e m f = record { is = low_more (has_bad (records table)) l r p bad e m.is f; marked = m.marked }
+pub next_marked : (table : List ℕ) (marks : List Bool) (l : Option ℕ) (r : ℕ) (bad : Bool) → l ≡ found (has_bad (records table)) r → is_some l ≡ false → MarkedOne table r marks bad → MarkedNext table r marks (then_some bad r)
+next_marked table marks l r bad e n m = record { is = found_next (has_bad (records table)) l r bad e n m.is; marked = m.marked }
 
-pub record Records (rs : List Record) (marks : List ℕ) (low r : ℕ) : Type 0 where
+pub record Records (rs : List Record) (marks : List Bool) (low : Option ℕ) (r : ℕ) : Type 0 where
   pub within : r ≤ length rs
-  pub is : low ≡ lowest (has_bad rs) r
+  pub is : low ≡ found (has_bad rs) r
   pub marked : Marked marks (all_named (take r rs))
 
-pub records_start : (rs : List Record) (marks : List ℕ) → Marked marks [] → Records rs marks 0 0
+pub records_start : (rs : List Record) (marks : List Bool) → Marked marks [] → Records rs marks None 0
 records_start rs marks m = record { within = omega arith; is = refl; marked = m }
 
-pub records_more : (table marks marks' : List ℕ) (l r p : ℕ) → Records (records table) marks l r → r < length (records table) → MarkedNext table r marks' p → Records (records table) marks' p (r + 1)
+pub records_more : (table : List ℕ) (marks marks' : List Bool) (l : Option ℕ) (r : ℕ) (p : Option ℕ) → Records (records table) marks l r → r < length (records table) → MarkedNext table r marks' p → Records (records table) marks' p (r + 1)
 records_more table marks marks' l r p o h m = record { within = omega arith; is = m.is; marked = rw (add-one r) m.marked }
 
-pub records_end : (table marks : List ℕ) (l r : ℕ) → Records (records table) marks l r → length (records table) ≤ r → MarkedAll table marks l
+pub records_end : (table : List ℕ) (marks : List Bool) (l : Option ℕ) (r : ℕ) → Records (records table) marks l r → length (records table) ≤ r → MarkedAll table marks l
 records_end table marks l r o h =
     let all : r ≡ length (records table) = omega (arith, o.within) in
-    record { is = o.is ∙ ap (lowest (has_bad (records table))) all; marked = rw (sym (take_all r (records table) h)) o.marked }
+    record { is = o.is ∙ ap (found (has_bad (records table))) all; marked = rw (sym (take_all r (records table) h)) o.marked }
 
 -- ---- rule 6
 
@@ -155,10 +159,9 @@ stray_last rs r b e f = f ∙ sym (rw (eq-eqb (suc r) (length rs) (sym (add-one 
 pub stray_named : (rs : List Record) (r : ℕ) (b : Bool) → (r + 1 ≡ length rs → ⊥) → b ≡ is_in r (all_named rs) → not b ≡ is_stray rs r
 stray_named rs r b ne f = ap not f ∙ sym (rw (ne_eqb (suc r) (length rs) (λ e. ne (add-one r ∙ e))))
 
-pub lowest_both : (rs : List Record) (n a b p : ℕ) → n ≡ length rs → a ≡ lowest (has_bad rs) (length rs) → b ≡ lowest (is_stray rs) n → p ≡ min a b → p ≡ lowest (fault6 rs) n
+pub found_both : (rs : List Record) (n : ℕ) (a b : Option ℕ) → n ≡ length rs → a ≡ found (has_bad rs) (length rs) → b ≡ found (is_stray rs) (unwrap_or a n) → option_or b a ≡ found (fault6 rs) n
 unfolding fault6
-lowest_both rs n a b p e f g h =
-    h ∙ ap (λ (k : ℕ). min k b) (f ∙ ap (lowest (has_bad rs)) (sym e)) ∙ ap (λ (k : ℕ). min (lowest (has_bad rs) n) k) g ∙ sym (lowest_either (has_bad rs) (is_stray rs) n)
+found_both rs n a b e f g = found_either (has_bad rs) (is_stray rs) n a b (f ∙ ap (found (has_bad rs)) (sym e)) g
 
-pub no_marks : Marked (replicate 200 0) []
-no_marks = record { long = length-replicate {A = ℕ} 200 0; is = λ n h. rw (get_or-replicate {A = ℕ} 200 n 0 0 h) }
+pub no_marks : Marked (replicate 200 false) []
+no_marks = record { long = length-replicate {A = Bool} 200 false; is = λ n h. rw (get_or-replicate {A = Bool} 200 n false false h) }

@@ -9,8 +9,7 @@ use Rattle.tables.specs.Sheet.{fold, is_loose, parent, pattern_of, climb}
 use Rattle.tables.specs.Check.{most_records}
 use Rattle.tables.specs.Accepted.{records}
 use Rattle.tables.specs.Check.{Clear6}
-use Rattle.tables.specs.Reading.{Here, HasOperand}
-use Rattle.checking.specs.Naming.{WholeTable}
+use Rattle.checking.specs.Naming.{Listed, ListedOperand, WholeTable}
 
 -- Bit n of a number is set; the bits of either of two.
 unfoldable pub has_bit : ℕ → ℕ → Bool
@@ -61,43 +60,43 @@ pub record Around (rs : List Record) (bits : List ℕ) (q : ℕ) : Type 0 where
   pub long : length bits ≡ most_records
   pub is : (r : ℕ) → r < length rs → q ≤ parent rs r → get_or bits r 0 ≡ around rs r
 
-pub record AskBelow (table index : List ℕ) (r : ℕ) (bits : List ℕ) : Type 0 where
-  pub here : Here table index r
+pub record AskBelow (table : List ℕ) (r : ℕ) (bits : List ℕ) : Type 0 where
+  pub here : Listed table r
   pub clear : Clear6 (records table)
   pub below : Below (records table) bits r
 
 -- A whole table that keeps rule 6.
-pub record KeepsRule6 (table index : List ℕ) (count : ℕ) : Type 0 where
-  pub whole : WholeTable table index count
+pub record KeepsRule6 (table : List ℕ) (count : ℕ) : Type 0 where
+  pub whole : WholeTable table count
   pub clear : Clear6 (records table)
 
-pub record AskGiven (table index : List ℕ) (q i : ℕ) (bits : List ℕ) : Type 0 where
-  pub operand : HasOperand table index q i
+pub record AskGiven (table : List ℕ) (q i : ℕ) (bits : List ℕ) : Type 0 where
+  pub operand : ListedOperand table q i
   pub clear : Clear6 (records table)
   pub below : Below (records table) bits (length (records table))
 
-pub record AskPush (table index : List ℕ) (q : ℕ) (inner outer : List ℕ) : Type 0 where
-  pub here : Here table index q
+pub record AskPush (table : List ℕ) (q : ℕ) (inner outer : List ℕ) : Type 0 where
+  pub here : Listed table q
   pub clear : Clear6 (records table)
   pub below : Below (records table) inner (length (records table))
   pub around : Around (records table) outer (q + 1)
 
-pub record AskAround (table index : List ℕ) (count : ℕ) (inner outer : List ℕ) : Type 0 where
-  pub kept : KeepsRule6 table index count
+pub record AskAround (table : List ℕ) (count : ℕ) (inner outer : List ℕ) : Type 0 where
+  pub kept : KeepsRule6 table count
   pub below : Below (records table) inner (length (records table))
   pub around : Around (records table) outer (length (records table))
 
-pub record AskScoped (table index : List ℕ) (count : ℕ) (inner outer : List ℕ) : Type 0 where
-  pub kept : KeepsRule6 table index count
+pub record AskScoped (table : List ℕ) (count : ℕ) (inner outer : List ℕ) : Type 0 where
+  pub kept : KeepsRule6 table count
   pub below : Below (records table) inner (length (records table))
   pub around : Around (records table) outer 0
 
-pub record AskName (table index : List ℕ) (r : ℕ) (outer : List ℕ) : Type 0 where
-  pub here : Here table index r
+pub record AskName (table : List ℕ) (r : ℕ) (outer : List ℕ) : Type 0 where
+  pub here : Listed table r
   pub around : Around (records table) outer 0
 
-pub record AskChoice (table index : List ℕ) (r : ℕ) (inner outer : List ℕ) : Type 0 where
-  pub here : Here table index r
+pub record AskChoice (table : List ℕ) (r : ℕ) (inner outer : List ℕ) : Type 0 where
+  pub here : Listed table r
   pub clear : Clear6 (records table)
   pub below : Below (records table) inner (length (records table))
   pub around : Around (records table) outer 0

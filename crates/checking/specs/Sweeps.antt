@@ -1,5 +1,6 @@
 -- What one pass over the records keeps: which are left to be named, and what each holds and leaves free.
-use Rattle.std.specs.Prelude.{◌≡◌, Bool, true, false, not, ◌&&◌, ◌||◌, cond, List, [], ℕ, suc, ◌+◌, ◌^◌, ◌<◌, ◌≤◌, eqb, ltb, length, get_or, set, take}
+use Rattle.std.specs.Prelude.{◌≡◌, Bool, true, false, not, ◌&&◌, ◌||◌, cond, List, [], ℕ, suc, ◌+◌, ◌^◌, ◌<◌, ◌≤◌, eqb, ltb, length, get_or, set, take, Option, Some, None, is_some}
+use Rattle.std.specs.Bool.{then_some}
 use Rattle.std.specs.Int.Bits.{bit_and, bit_or, bit_xor}
 use Rattle.tables.specs.declared.Role.{Role}
 use Rattle.tables.specs.declared.Role.TheVariants.{Plain, Condition, Body, Pattern, Name}
@@ -9,11 +10,9 @@ use Rattle.tables.specs.Sheet.{is_in, holds_name, is_covered, is_condition, is_b
 use Rattle.tables.specs.Check.{most_records, all_named, has_bad, chooses, fault7, fault8}
 use Rattle.tables.specs.Accepted.{records}
 use Rattle.tables.specs.Check.{Clear6}
-use Rattle.tables.specs.Reading.{Indexed, Here}
-use Rattle.checking.specs.Naming.{WholeTable}
+use Rattle.checking.specs.Naming.{Listed, WholeTable}
 use Rattle.checking.specs.Scopes.{has_bit, or_bits, bits_below}
 use Rattle.checking.specs.declared.sweep.Sum.{Sum}
-use Rattle.checking.specs.declared.sweep.Handed.{Handed}
 
 -- Rules 6 to 8 are kept.
 pub record Keeps (rs : List Record) : Type 0 where
@@ -64,21 +63,15 @@ is_named Name kind = eqb kind 32
 -- ---- names that are read and not bound, and choices
 
 -- What a record hands on of an operand's free bits: all, or without the names that it binds; none where a name is bound anew or a condition has a choice.
-abbrev pub hands : ℕ → Handed
-hands free = record { fine = true; free = free }
+abbrev pub covered_by : ℕ → ℕ → ℕ → Option ℕ
+covered_by names held free = then_some (apart held names) (without free names)
 
-abbrev pub stops : Handed
-stops = record { fine = false; free = 0 }
-
-abbrev pub covered_by : ℕ → ℕ → ℕ → Handed
-covered_by names held free = cond (apart held names) (hands (without free names)) stops
-
-abbrev pub handed_on : Role → ℕ → ℕ → ℕ → Handed
-handed_on Plain names held free = hands free
-handed_on Condition names held free = cond (has_bit free 0) stops (covered_by names held free)
+abbrev pub handed_on : Role → ℕ → ℕ → ℕ → Option ℕ
+handed_on Plain names held free = Some free
+handed_on Condition names held free = cond (has_bit free 0) None (covered_by names held free)
 handed_on Body names held free = covered_by names held free
-handed_on Pattern names held free = hands free
-handed_on Name names held free = hands free
+handed_on Pattern names held free = Some free
+handed_on Name names held free = Some free
 
 -- The bits that are free at a record by itself: that its kind chooses, with a pattern that holds the names; or the name that it reads.
 unfoldable pub choice_of : ℕ → ℕ → ℕ
@@ -108,33 +101,34 @@ pub record Allowed (rs : List Record) (r m : ℕ) : Type 0 where
 -- ---- one more operand
 
 -- The operand n of a record; where it is left to be named, it is in the table.
-pub record AskOperand (table index : List ℕ) (n : ℕ) (left : List ℕ) : Type 0 where
-  pub indexed : Indexed table index
+pub record AskOperand (table : List ℕ) (n : ℕ) (left : List ℕ) : Type 0 where
+  pub few : length (records table) ≤ most_records
   pub byte : n < 256
   pub within : 0 < get_or left n 0 → n < length (records table)
 
 -- Operand n is left, of the sort that its role asks for, binds no name anew and, as a condition, has no choice.
 abbrev pub suits : List Record → Role → ℕ → ℕ → List ℕ → List ℕ → List ℕ → Bool
 suits rs role n names left below frees =
-    eqb (get_or left n 0) (asked role) && (is_named role (kind_at rs n) && (handed_on role names (get_or below n 0) (get_or frees n 0)).fine)
+    eqb (get_or left n 0) (asked role) && (is_named role (kind_at rs n) && is_some (handed_on role names (get_or below n 0) (get_or frees n 0)))
 
 -- What a record comes to without its operand n, s, and with it, t.
 pub record Added (rs : List Record) (role : Role) (n names : ℕ) (left left' below frees : List ℕ) (s t : Sum) : Type 0 where
   pub sort : get_or left n 0 ≡ asked role
   pub kind : is_named role (kind_at rs n) ≡ true
   pub left_is : left' ≡ set left n 0
-  pub fine : (handed_on role names (get_or below n 0) (get_or frees n 0)).fine ≡ true
+  pub handed : ℕ
+  pub hands : handed_on role names (get_or below n 0) (get_or frees n 0) ≡ Some handed
   pub held : t.held ≡ or_bits s.held (get_or below n 0)
-  pub free : t.free ≡ or_bits s.free (handed_on role names (get_or below n 0) (get_or frees n 0)).free
+  pub free : t.free ≡ or_bits s.free handed
 
--- What a record comes to with its operand n is fine exactly where the operand suits.
-pub record Adds (rs : List Record) (role : Role) (n names : ℕ) (left left' below frees : List ℕ) (s t : Sum) : Type 0 where
-  pub told : t.fine ≡ suits rs role n names left below frees
-  pub added : t.fine ≡ true → Added rs role n names left left' below frees s t
+-- A record comes to something with its operand n exactly where the operand suits.
+pub record Adds (rs : List Record) (role : Role) (n names : ℕ) (left left' below frees : List ℕ) (s : Sum) (o : Option Sum) : Type 0 where
+  pub told : is_some o ≡ suits rs role n names left below frees
+  pub added : (t : Sum) → o ≡ Some t → Added rs role n names left left' below frees s t
 
 -- What a record comes to by itself, of the bits that it holds and leaves free.
 abbrev pub alone_of : ℕ → ℕ → Sum
-alone_of held free = record { fine = true; held = held; free = free }
+alone_of held free = record { held = held; free = free }
 
 -- The role of all operands of a kind that binds nothing.
 abbrev pub one_role : ℕ → Role
@@ -156,8 +150,8 @@ pub record Known (rs : List Record) (below frees : List ℕ) (r : ℕ) : Type 0 
   pub free : Clear6 rs → (q : ℕ) → q < r → Frees rs frees q (get_or frees q 0)
   pub allowed : Keeps rs → (q : ℕ) → q < r → Allowed rs q (get_or frees q 0)
 
-pub record AskSum (table index : List ℕ) (r : ℕ) (left below frees : List ℕ) : Type 0 where
-  pub here : Here table index r
+pub record AskSum (table : List ℕ) (r : ℕ) (left below frees : List ℕ) : Type 0 where
+  pub here : Listed table r
   pub left_is : Left (records table) left r (all_named (take r (records table)))
   pub kept : Known (records table) below frees r
 
@@ -165,8 +159,8 @@ pub record AskSum (table index : List ℕ) (r : ℕ) (left below frees : List �
 pub record Names (rs : List Record) (r names : ℕ) : Type 0 where
   pub are : Clear6 rs → is_binder (kind_at rs r) ≡ true → names ≡ bits_below rs (pattern_of rs r)
 
-pub record AskKind (table index : List ℕ) (r kind : ℕ) (left below frees : List ℕ) : Type 0 where
-  pub ask : AskSum table index r left below frees
+pub record AskKind (table : List ℕ) (r kind : ℕ) (left below frees : List ℕ) : Type 0 where
+  pub ask : AskSum table r left below frees
   pub is : kind ≡ kind_at (records table) r
 
 -- What a record that is not at fault and its operands come to.
@@ -177,10 +171,10 @@ pub record Sums (rs : List Record) (r : ℕ) (left frees : List ℕ) (s : Sum) :
   pub free : Clear6 rs → Frees rs frees r s.free
   pub allowed : Keeps rs → Allowed rs r s.free
 
--- What a record and its operands come to is fine where rules 6 to 8 are kept.
-pub record Gathered (rs : List Record) (r : ℕ) (left frees : List ℕ) (s : Sum) : Type 0 where
-  pub told : Keeps rs → s.fine ≡ true
-  pub sums : s.fine ≡ true → Sums rs r left frees s
+-- A record and its operands come to something where rules 6 to 8 are kept.
+pub record Gathered (rs : List Record) (r : ℕ) (left frees : List ℕ) (o : Option Sum) : Type 0 where
+  pub told : Keeps rs → is_some o ≡ true
+  pub sums : (s : Sum) → o ≡ Some s → Sums rs r left frees s
 
 -- What is known once record r is added.
 pub record RecordAdded (rs : List Record) (r : ℕ) (left below frees : List ℕ) : Type 0 where
@@ -188,8 +182,8 @@ pub record RecordAdded (rs : List Record) (r : ℕ) (left below frees : List ℕ
   pub left_is : Left rs left (r + 1) (all_named (take (suc r) rs))
   pub kept : Known rs below frees (r + 1)
 
-pub record AskSweep (table index : List ℕ) (count : ℕ) (left below frees : List ℕ) : Type 0 where
-  pub whole : WholeTable table index count
+pub record AskSweep (table : List ℕ) (count : ℕ) (left below frees : List ℕ) : Type 0 where
+  pub whole : WholeTable table count
   pub left_is : Left (records table) left 0 []
   pub kept : Known (records table) below frees 0
 

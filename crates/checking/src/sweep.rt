@@ -6,18 +6,20 @@ ghost use Rattle.tables.specs.Table.{record_at, kind_at};
 ghost use Rattle.tables.specs.Sheet.{is_binder};
 ghost use Rattle.tables.specs.Check.{most_records};
 ghost use Rattle.tables.specs.Accepted.{records};
-ghost use Rattle.tables.specs.Reading.{Here};
+ghost use Rattle.checking.specs.Naming.{Listed};
 ghost use Rattle.checking.specs.Naming.{WholeTable};
 ghost use Rattle.checking.specs.Scopes.{own as own_of};
-ghost use Rattle.checking.specs.Sweeps.{without as without_of, apart, sort_of, asked, is_named, covered_by, handed_on, choice_of, AskOperand, Adds, alone_of, one_role, names_of, AskSum, AskKind, Gathered, RecordAdded, AskSweep, Passed, NoneLeft, Closed, Keeps};
+ghost use Rattle.checking.specs.Sweeps.{without as without_of, apart, sort_of, asked, is_named, covered_by, handed_on, choice_of, AskOperand, Adds, one_role, names_of, AskSum, AskKind, Gathered, RecordAdded, AskSweep, Passed, NoneLeft, Closed, Keeps};
 
 use crate::scope::{bit, has, own, union};
-use tables::reading::{AFTER_OPERATOR, PLAIN, field, kind, operand_from, operands_from};
 use tables::shape::{first_operand, is_binder, is_pattern, role_of};
-use tables::{Index, MOST_RECORDS, Role, kinds};
+use tables::sheet::{AFTER_OPERATOR, PLAIN, Sheet};
+use tables::{MOST_RECORDS, Role, kinds};
 
 // For each number that a byte holds: whether such a record is left to be named, and of which sort.
 pub type Left = [u8; 256];
+
+const NONE: u8 = 0;
 
 const EXPRESSION: u8 = 1;
 
@@ -28,19 +30,11 @@ const CHOICE: u32 = 1;
 
 const FIRST_NAME: u32 = 4;
 
-// What a record and its operands come to: whether no rule is found broken; the bits held at and below it, as in `scope`; the names that are free
-// there (bits from 2 on) and whether there is a choice (bit 0).
+// What a record and its operands come to: the bits held at and below it, as in `scope`; the names that are free there (bits from 2 on) and whether
+// there is a choice (bit 0).
 #[derive(Clone, Copy)]
 pub struct Sum {
-    pub fine: bool,
     pub held: u32,
-    pub free: u32,
-}
-
-// What a record hands on of an operand's free bits.
-#[derive(Clone, Copy)]
-pub struct Handed {
-    pub fine: bool,
     pub free: u32,
 }
 
@@ -67,69 +61,48 @@ fn wanted(role: Role) -> u8
     ensures { result ≡ asked role }
 {
     match role {
-        Role::Plain => EXPRESSION,
-        Role::Condition => EXPRESSION,
-        Role::Body => EXPRESSION,
-        Role::Pattern => PATTERN,
-        Role::Name => PATTERN,
+        Role::Plain | Role::Condition | Role::Body => EXPRESSION,
+        Role::Pattern | Role::Name => PATTERN,
     }
 }
 
 // Record n is a name pattern where the role asks for one.
-fn is_named(table: &[u8], index: &Index, role: Role, n: usize) -> bool
-    requires { Here table.now index.now n }
-    ensures { result ≡ is_named role (kind_at (records table.now) n) }
+fn is_named(sheet: &Sheet, role: Role, n: usize) -> bool
+    requires { Listed sheet.now n }
+    ensures { result ≡ is_named role (kind_at (records sheet.now) n) }
 {
     match role {
-        Role::Plain => true,
-        Role::Condition => true,
-        Role::Body => true,
-        Role::Pattern => true,
-        Role::Name => kind(table, index, n) == kinds::NAME_PATTERN,
+        Role::Plain | Role::Condition | Role::Body | Role::Pattern => true,
+        Role::Name => sheet.kind(n) == kinds::NAME_PATTERN,
     }
 }
 
-// What is handed on of an operand that a binder's names cover: all but those names. Not fine where one of them is bound there anew.
-fn covered(names: u32, held: u32, free: u32) -> Handed
+// What is handed on of the free bits of an operand that a binder's names cover: all but those names. None where one of them is bound there anew.
+fn covered(names: u32, held: u32, free: u32) -> Option<u32>
     ensures { result ≡ covered_by names held free }
 {
-    if is_apart(held, names) {
-        return Handed {
-            fine: true,
-            free: without(free, names),
-        };
-    }
-    Handed {
-        fine: false,
-        free: 0,
-    }
+    is_apart(held, names).then_some(without(free, names))
 }
 
-// What is handed on of an operand of a role: all where no names cover it. Not fine where a condition has a choice.
-fn hand_on(role: Role, names: u32, held: u32, free: u32) -> Handed
+// What is handed on of the free bits of an operand of a role: all where no names cover it. None where a condition has a choice.
+fn hand_on(role: Role, names: u32, held: u32, free: u32) -> Option<u32>
     ensures { result ≡ handed_on role names held free }
 {
     match role {
-        Role::Plain => Handed { fine: true, free },
+        Role::Plain | Role::Pattern | Role::Name => Some(free),
         Role::Condition => {
             if has(free, 0) {
-                return Handed {
-                    fine: false,
-                    free: 0,
-                };
+                return None;
             }
             covered(names, held, free)
         }
         Role::Body => covered(names, held, free),
-        Role::Pattern => Handed { fine: true, free },
-        Role::Name => Handed { fine: true, free },
     }
 }
 
-// What a record comes to with one more operand, the record n, which is not left to be named any more; not fine where a rule is broken.
+// What a record comes to with one more operand, the record n, which is not left to be named any more; none where a rule is broken.
 fn add_operand(
-    table: &[u8],
-    index: &Index,
+    sheet: &Sheet,
     s: Sum,
     role: Role,
     n: usize,
@@ -137,54 +110,23 @@ fn add_operand(
     left: &mut Left,
     below: &[u32; MOST_RECORDS],
     frees: &[u32; MOST_RECORDS],
-) -> Sum
-    requires { AskOperand table.now index.now n left.old }
-    ensures { Adds (records table.now) role n names left.old left.new below.now frees.now s result }
+) -> Option<Sum>
+    requires { AskOperand sheet.now n left.old }
+    ensures { Adds (records sheet.now) role n names left.old left.new below.now frees.now s result }
 {
-    if left[n] != wanted(role) {
-        return stop();
+    if left[n] != wanted(role) || !is_named(sheet, role, n) {
+        return None;
     }
-    let named = is_named(table, index, role, n);
-    if !named {
-        return stop();
-    }
-    left[n] = 0;
-    let inner = below[n];
-    let handed = hand_on(role, names, inner, frees[n]);
-    let fine = handed.fine;
-    if !fine {
-        return stop();
-    }
-    Sum {
-        fine: true,
-        held: union(s.held, inner),
-        free: union(s.free, handed.free),
-    }
-}
-
-// What a record comes to where a rule is broken.
-fn stop() -> Sum
-    ensures { result.fine ≡ false }
-{
-    Sum {
-        fine: false,
-        held: 0,
-        free: 0,
-    }
+    left[n] = NONE;
+    let held = below[n];
+    let free = hand_on(role, names, held, frees[n])?;
+    Some(Sum {
+        held: union(s.held, held),
+        free: union(s.free, free),
+    })
 }
 
 // ---- one record
-
-// What a record comes to before its operands: the bits that it holds and leaves free itself.
-fn alone(held: u32, free: u32) -> Sum
-    ensures { result ≡ alone_of held free }
-{
-    Sum {
-        fine: true,
-        held,
-        free,
-    }
-}
 
 // The role of all operands of a kind that binds nothing.
 fn one_role(kind: usize) -> Role
@@ -211,44 +153,40 @@ fn first_byte(kind: usize) -> usize
 }
 
 // The bits of record r itself: an expression has none.
-fn own_of(table: &[u8], index: &Index, r: usize, kind: usize) -> u32
-    requires { Here table.now index.now r × (kind ≡ kind_at (records table.now) r) }
-    ensures { result ≡ own_of (record_at (records table.now) r) }
+fn own_of(sheet: &Sheet, r: usize, kind: usize) -> u32
+    requires { Listed sheet.now r × (kind ≡ kind_at (records sheet.now) r) }
+    ensures { result ≡ own_of (record_at (records sheet.now) r) }
 {
     if is_pattern(kind) {
-        return own(table, index, r);
+        return own(sheet, r);
     }
     0
 }
 
-// What record r and its operands come to, where it binds nothing; its operands are not left to be named any more. Not fine where a rule is broken.
+// What record r and its operands come to, where it binds nothing; its operands are not left to be named any more. None where a rule is broken.
 fn gather(
-    table: &[u8],
-    index: &Index,
+    sheet: &Sheet,
     r: usize,
     kind: usize,
     left: &mut Left,
     below: &[u32; MOST_RECORDS],
     frees: &[u32; MOST_RECORDS],
-) -> Sum
-    requires { AskKind table.now index.now r kind left.old below.now frees.now × (3 < kind) × (is_binder kind ≡ false) }
-    ensures { Gathered (records table.now) r left.new frees.now result }
+) -> Option<Sum>
+    requires { AskKind sheet.now r kind left.old below.now frees.now × (3 < kind) × (is_binder kind ≡ false) }
+    ensures { Gathered (records sheet.now) r left.new frees.now result }
 {
-    let mut s = alone(own_of(table, index, r, kind), 0);
+    let mut s = Sum {
+        held: own_of(sheet, r, kind),
+        free: 0,
+    };
     let role = one_role(kind);
     let first = first_byte(kind);
-    let count = operands_from(table, index, r, first);
-    let mut i = 0;
-    while i < count {
-        let n = operand_from(table, index, r, first, i);
-        s = add_operand(table, index, s, role, n, 0, left, below, frees);
-        let fine = s.fine;
-        if !fine {
-            return s;
-        }
-        i += 1;
+    let count = sheet.operands_from(r, first);
+    for i in 0..count {
+        let n = sheet.operand_from(r, first, i);
+        s = add_operand(sheet, s, role, n, 0, left, below, frees)?;
     }
-    s
+    Some(s)
 }
 
 // The bits that the pattern p of record r holds; 0 where p is not lower.
@@ -279,77 +217,61 @@ fn choice(kind: usize, names: u32) -> u32
 }
 
 // What record r and its operands come to, where it is a binder, whose operands differ in their roles: its pattern, its set or value, its condition
-// (a let has none), and its bodies. Not fine where a rule is broken.
+// (a let has none), and its bodies. None where a rule is broken.
 fn bind(
-    table: &[u8],
-    index: &Index,
+    sheet: &Sheet,
     r: usize,
     kind: usize,
     left: &mut Left,
     below: &[u32; MOST_RECORDS],
     frees: &[u32; MOST_RECORDS],
-) -> Sum
-    requires { AskKind table.now index.now r kind left.old below.now frees.now × (is_binder kind ≡ true) }
-    ensures { Gathered (records table.now) r left.new frees.now result }
+) -> Option<Sum>
+    requires { AskKind sheet.now r kind left.old below.now frees.now × (is_binder kind ≡ true) }
+    ensures { Gathered (records sheet.now) r left.new frees.now result }
 {
-    let p = operand_from(table, index, r, PLAIN, 0);
+    let p = sheet.operand_from(r, PLAIN, 0);
     let names = names_of(below, r, p);
-    let mut s = alone(0, choice(kind, names));
+    let mut s = Sum {
+        held: 0,
+        free: choice(kind, names),
+    };
     let role = role_of(kind, 0);
-    s = add_operand(table, index, s, role, p, names, left, below, frees);
-    let fine = s.fine;
-    if !fine {
-        return s;
-    }
-    let n = operand_from(table, index, r, PLAIN, 1);
-    let role = Role::Plain;
-    s = add_operand(table, index, s, role, n, names, left, below, frees);
-    let fine = s.fine;
-    if !fine {
-        return s;
-    }
-    let n = operand_from(table, index, r, PLAIN, 2);
+    s = add_operand(sheet, s, role, p, names, left, below, frees)?;
+    let n = sheet.operand_from(r, PLAIN, 1);
+    s = add_operand(sheet, s, Role::Plain, n, names, left, below, frees)?;
+    let n = sheet.operand_from(r, PLAIN, 2);
     let role = role_of(kind, 2);
-    s = add_operand(table, index, s, role, n, names, left, below, frees);
-    let fine = s.fine;
-    if !fine {
-        return s;
+    s = add_operand(sheet, s, role, n, names, left, below, frees)?;
+    let count = sheet.operands_from(r, PLAIN);
+    for i in 3..count {
+        let n = sheet.operand_from(r, PLAIN, i);
+        s = add_operand(sheet, s, Role::Body, n, names, left, below, frees)?;
     }
-    let count = operands_from(table, index, r, PLAIN);
-    let role = Role::Body;
-    let mut i = 3;
-    while i < count {
-        let n = operand_from(table, index, r, PLAIN, i);
-        s = add_operand(table, index, s, role, n, names, left, below, frees);
-        let fine = s.fine;
-        if !fine {
-            return s;
-        }
-        i += 1;
-    }
-    s
+    Some(s)
 }
 
-// What record r and its operands come to. A name has no operands, and leaves itself free. Not fine where a rule is broken.
+// What record r and its operands come to. A name has no operands, and leaves itself free. None where a rule is broken.
 fn sum_of(
-    table: &[u8],
-    index: &Index,
+    sheet: &Sheet,
     r: usize,
     kind: usize,
     left: &mut Left,
     below: &[u32; MOST_RECORDS],
     frees: &[u32; MOST_RECORDS],
-) -> Sum
-    requires { AskKind table.now index.now r kind left.old below.now frees.now × (2 < kind) }
-    ensures { Gathered (records table.now) r left.new frees.now result }
+) -> Option<Sum>
+    requires { AskKind sheet.now r kind left.old below.now frees.now × (2 < kind) }
+    ensures { Gathered (records sheet.now) r left.new frees.now result }
 {
     if kind == kinds::NAME {
-        return alone(0, bit(field(table, index, r, 0) + 2));
+        return Some(Sum {
+            held: 0,
+            free: bit(sheet.field(r, 0) + 2),
+        });
     }
     if is_binder(kind) {
-        return bind(table, index, r, kind, left, below, frees);
+        return bind(sheet, r, kind, left, below, frees);
     }
-    gather(table, index, r, kind, left, below, frees)
+    gather(sheet, r, kind, left, below, frees)
 }
 
 // ---- all records
@@ -367,17 +289,16 @@ fn sort_of(kind: usize) -> u8
 // Adds record r with what it and its operands come to, and leaves it to be named; false where a rule is broken. A boolean, an integer and
 // any have no operands, and hold and leave nothing.
 fn add_record(
-    table: &[u8],
-    index: &Index,
+    sheet: &Sheet,
     r: usize,
     left: &mut Left,
     below: &mut [u32; MOST_RECORDS],
     frees: &mut [u32; MOST_RECORDS],
 ) -> bool
-    requires { AskSum table.now index.now r left.old below.old frees.old }
-    ensures { (result ≡ true → RecordAdded (records table.now) r left.new below.new frees.new) × (Keeps (records table.now) → result ≡ true) }
+    requires { AskSum sheet.now r left.old below.old frees.old }
+    ensures { (result ≡ true → RecordAdded (records sheet.now) r left.new below.new frees.new) × (Keeps (records sheet.now) → result ≡ true) }
 {
-    let k = kind(table, index, r);
+    let k = sheet.kind(r);
     if k < kinds::NAME {
         left[r] = EXPRESSION;
         return true;
@@ -386,11 +307,9 @@ fn add_record(
         left[r] = PATTERN;
         return true;
     }
-    let s = sum_of(table, index, r, k, left, below, frees);
-    let fine = s.fine;
-    if !fine {
+    let Some(s) = sum_of(sheet, r, k, left, below, frees) else {
         return false;
-    }
+    };
     left[r] = sort_of(k);
     below[r] = s.held;
     frees[r] = s.free;
@@ -399,41 +318,31 @@ fn add_record(
 
 // Adds all records, from the first on; false where a rule is broken.
 fn add_records(
-    table: &[u8],
-    index: &Index,
+    sheet: &Sheet,
     count: usize,
     left: &mut Left,
     below: &mut [u32; MOST_RECORDS],
     frees: &mut [u32; MOST_RECORDS],
 ) -> bool
-    requires { AskSweep table.now index.now count left.old below.old frees.old }
-    ensures { (result ≡ true → Passed (records table.now) left.new frees.new) × (Keeps (records table.now) → result ≡ true) }
+    requires { AskSweep sheet.now count left.old below.old frees.old }
+    ensures { (result ≡ true → Passed (records sheet.now) left.new frees.new) × (Keeps (records sheet.now) → result ≡ true) }
 {
-    let mut r = 0;
-    while r < count {
-        let fine = add_record(table, index, r, left, below, frees);
-        if !fine {
+    for r in 0..count {
+        if !add_record(sheet, r, left, below, frees) {
             return false;
         }
-        r += 1;
     }
     true
 }
 
 // ---- the pass
 
-// A number that is 0 exactly where no record below n is left.
-fn left_below(left: &Left, n: usize) -> u8
+// No record below n is left.
+fn is_none_left(left: &Left, n: usize) -> bool
     requires { n ≤ 256 }
-    ensures { (result ≡ 0 → NoneLeft left.now n) × (NoneLeft left.now n → result ≡ 0) }
+    ensures { (result ≡ true → NoneLeft left.now n) × (NoneLeft left.now n → result ≡ true) }
 {
-    let mut x = 0;
-    let mut i = 0;
-    while i < n {
-        x = x | left[i];
-        i += 1;
-    }
-    x
+    left[..n].iter().all(|mark| *mark == NONE)
 }
 
 // The last record is an expression, with no name free, and the only one left.
@@ -441,26 +350,17 @@ fn is_closed(left: &Left, frees: &[u32; MOST_RECORDS], last: usize) -> bool
     requires { last < most_records }
     ensures { (result ≡ true → Closed left.now frees.now last) × (Closed left.now frees.now last → result ≡ true) }
 {
-    if left[last] != EXPRESSION {
-        return false;
-    }
-    if FIRST_NAME <= frees[last] {
-        return false;
-    }
-    left_below(left, last) == 0
+    left[last] == EXPRESSION && frees[last] < FIRST_NAME && is_none_left(left, last)
 }
 
 // One pass over all records: whether rules 6 to 8 are kept.
-pub fn sweep(table: &[u8], index: &Index, count: usize) -> bool
-    requires { WholeTable table.now index.now count × (0 < count) }
-    ensures { (result ≡ true → Keeps (records table.now)) × (Keeps (records table.now) → result ≡ true) }
+pub fn sweep(sheet: &Sheet, count: usize) -> bool
+    requires { WholeTable sheet.now count × (0 < count) }
+    ensures { (result ≡ true → Keeps (records sheet.now)) × (Keeps (records sheet.now) → result ≡ true) }
 {
-    let mut left = [0u8; 256];
+    let mut left = [NONE; 256];
     let mut below = [0u32; MOST_RECORDS];
     let mut frees = [0u32; MOST_RECORDS];
-    let fine = add_records(table, index, count, &mut left, &mut below, &mut frees);
-    if !fine {
-        return false;
-    }
-    is_closed(&left, &frees, count - 1)
+    add_records(sheet, count, &mut left, &mut below, &mut frees)
+        && is_closed(&left, &frees, count - 1)
 }

@@ -5,12 +5,14 @@ use mathlib.Core.Option.{some}
 use mathlib.Core.List.{List, []}
 use Prim.Native.Nat.{ℕ, ◌≤◌, ◌<◌}
 use borrow.Author.Tests.{lt-ltb, le-ltb}
+use Rattle.std.specs.Prelude.{Ok, Err}
+use Rattle.prelude.specs.declared.Refusal.{Refusal}
+use Rattle.prelude.specs.Refusals.{number_of}
 use Rattle.choices.specs.State.{Choices, Picked, Advanced, View, view, fresh, Invariant, Made, Chosen, Moved}
-use Rattle.choices.specs.declared.Answer.TheVariants.{Taken, Many, Short, Beyond}
 use Rattle.choices.specs.Tree.{Tree, give, stop, choose, bind, Full, Numbered, Final, result, refuses, final, run}
 use Rattle.choices.specs.Lists.{Complete}
 use Rattle.choices.specs.Paths.{first_list, next_list}
-use Rattle.choices.specs.Runs.{run_on, settle, ended_by, Came}
+use Rattle.choices.specs.Runs.{run_on, ways_reported, settle, ended_by, Came}
 use Rattle.choices.specs.Ran.{ran_as, at_end}
 use Rattle.choices.proofs.Ran.{state_of}
 use Rattle.choices.proofs.Runs.{bind_ran, bind_refused, chosen_runs, state_as, run_final, run_complete}
@@ -27,17 +29,11 @@ came_stop r p s = record { right = refl; sound = s }
 
 -- A choice that was made.
 module _ {A : Type 0} (p : ℕ) (ways : ℕ → Tree A) {c : Choices} {n : ℕ} {k : Picked} (h : Chosen c n k) where
-  pub came_taken : {i : ℕ} {f : Final A} {d : Choices} → k.answer ≡ Taken i → Came (ways i) k.state f d → Came (choose p n ways) c f d
-  came_taken {i} e w = record { right = chosen_runs p ways c n k h (Taken i) e ∙ w.right; sound = w.sound }
+  pub came_taken : {i : ℕ} {f : Final A} {d : Choices} → k.answer ≡ Ok i → Came (ways i) k.state f d → Came (choose p n ways) c f d
+  came_taken {i} e w = record { right = chosen_runs p ways c n k h (Ok i) e ∙ w.right; sound = w.sound }
 
-  pub came_many : k.answer ≡ Many → Came (choose p n ways) c (refuses 31 p 0) k.state
-  came_many e = record { right = chosen_runs p ways c n k h Many e; sound = h.sound }
-
-  pub came_short : k.answer ≡ Short → Came (choose p n ways) c (refuses 32 p n) k.state
-  came_short e = record { right = chosen_runs p ways c n k h Short e; sound = h.sound }
-
-  pub came_beyond : k.answer ≡ Beyond → Came (choose p n ways) c (refuses 33 p n) k.state
-  came_beyond e = record { right = chosen_runs p ways c n k h Beyond e; sound = h.sound }
+  pub came_refused : {r : Refusal} → k.answer ≡ Err r → Came (choose p n ways) c (refuses (number_of r) p (ways_reported r n)) k.state
+  came_refused {r} e = record { right = chosen_runs p ways c n k h (Err r) e; sound = h.sound }
 
 -- One run after another, and one that ends at a refusal.
 module _ {A B : Type 0} (t : Tree A) (g : A → Tree B) where

@@ -8,8 +8,9 @@ use native.Mathlib.Omega.{arith}
 use lib.ListN.{length, take, drop, get_or, set, length-set}
 use lib.Seq.{take-suc, take-suc-set, length-take-le}
 use borrow.Author.Tests.{lt-ltb, le-ltb, le-leb, lt-leb}
+use Rattle.std.specs.Prelude.{Ok, Err}
+use Rattle.prelude.specs.declared.Refusal.TheVariants.{TooManyChoices, ListTooShort, EntryTooHigh}
 use Rattle.choices.specs.State.{Choices, view, Invariant, answer_left, answer_of, Chosen, taking, after_first}
-use Rattle.choices.specs.declared.Answer.TheVariants.{Taken, Many, Short, Beyond}
 use Rattle.choices.specs.Tree.{most_choices}
 use Rattle.choices.proofs.States.{left_cons, left_nil}
 
@@ -17,14 +18,14 @@ module _ (c : Choices) (n : ℕ) (s : Invariant c) where
   past_length : c.used ≤ most_choices → length (take c.used c.entries) ≡ c.used
   past_length h = length-take-le c.used c.entries (omega arith)
 
-  pub many_law : most_choices ≤ c.used → Chosen c n (record { answer = Many; state = c })
+  pub many_law : most_choices ≤ c.used → Chosen c n (record { answer = Err TooManyChoices; state = c })
   many_law h = record { answered = rw (past_length (omega arith), le-leb most_choices c.used h); viewed = refl; sound = s }
 
   -- with room for a choice the answer is by what is left
   room : c.used < most_choices → answer_of (view c) n ≡ answer_left (drop c.used (take c.len c.entries)) c.grow n
   room h = rw (past_length (omega arith), lt-leb most_choices c.used h)
 
-  pub beyond_law : c.used < most_choices → c.used < c.len → n ≤ get_or c.entries c.used 0 → Chosen c n (record { answer = Beyond; state = c })
+  pub beyond_law : c.used < most_choices → c.used < c.len → n ≤ get_or c.entries c.used 0 → Chosen c n (record { answer = Err EntryTooHigh; state = c })
   beyond_law h k b =
       record {
         answered = sym (room h ∙ rw (left_cons c.entries c.used c.len k (omega arith), le-ltb (get_or c.entries c.used 0) n b));
@@ -32,7 +33,7 @@ module _ (c : Choices) (n : ℕ) (s : Invariant c) where
         sound = s;
       }
 
-  pub short_law : c.used < most_choices → c.len ≤ c.used → c.grow ≡ false → Chosen c n (record { answer = Short; state = c })
+  pub short_law : c.used < most_choices → c.len ≤ c.used → c.grow ≡ false → Chosen c n (record { answer = Err ListTooShort; state = c })
   short_law h k b =
       record {
         answered = sym (room h ∙ rw (left_nil c.entries c.used c.len k, b));
@@ -51,26 +52,26 @@ module _ (c : Choices) (n : ℕ) (s : Invariant c) where
   sound_more len h k m =
       record { used_within = omega arith; len_within = m; entries_sized = s.entries_sized; counts_sized = simp length-set s.counts_sized; zeroed = λ j a. s.zeroed j (omega arith) }
 
-  pub taken_law : (d : Choices) → d ≡ taking c n c.len → c.used < most_choices → c.used < c.len → get_or c.entries c.used 0 < n → Chosen c n (record { answer = Taken (get_or c.entries c.used 0); state = d })
+  pub taken_law : (d : Choices) → d ≡ taking c n c.len → c.used < most_choices → c.used < c.len → get_or c.entries c.used 0 < n → Chosen c n (record { answer = Ok (get_or c.entries c.used 0); state = d })
   taken_law d e h k b =
       let f = left_cons c.entries c.used c.len k (omega arith) in
       let p = past_more (get_or c.entries c.used 0) h refl in
       let m = met_more h in
       let q : drop (c.used + 1) (take c.len c.entries) ≡ after_first (drop c.used (take c.len c.entries)) = rw (add-one, f) in
-      subst (λ (x : Choices). Chosen c n (record { answer = Taken (get_or c.entries c.used 0); state = x })) (sym e)
+      subst (λ (x : Choices). Chosen c n (record { answer = Ok (get_or c.entries c.used 0); state = x })) (sym e)
       (record {
         answered = sym (room h ∙ rw (f, lt-ltb (get_or c.entries c.used 0) n b));
         viewed = λ i. record { past = p i; met = m i; left = q i; grow = c.grow };
         sound = sound_more c.len k (omega arith) s.len_within;
       })
 
-  pub grown_law : (d : Choices) → d ≡ taking c n (c.used + 1) → c.used < most_choices → c.len ≤ c.used → c.grow ≡ true → Chosen c n (record { answer = Taken 0; state = d })
+  pub grown_law : (d : Choices) → d ≡ taking c n (c.used + 1) → c.used < most_choices → c.len ≤ c.used → c.grow ≡ true → Chosen c n (record { answer = Ok 0; state = d })
   grown_law d e h k b =
       let f = left_nil c.entries c.used c.len k in
       let p = past_more 0 h (s.zeroed c.used k) in
       let m = met_more h in
       let q : drop (c.used + 1) (take (c.used + 1) c.entries) ≡ after_first (drop c.used (take c.len c.entries)) = rw f (left_nil c.entries (c.used + 1) (c.used + 1) (omega arith)) in
-      subst (λ (x : Choices). Chosen c n (record { answer = Taken 0; state = x })) (sym e)
+      subst (λ (x : Choices). Chosen c n (record { answer = Ok 0; state = x })) (sym e)
       (record {
         answered = sym (room h ∙ rw (f, b));
         viewed = λ i. record { past = p i; met = m i; left = q i; grow = c.grow };

@@ -9,9 +9,9 @@ use lib.Seq.{append_snoc}
 use lib.Dec.{ltb, leb}
 use borrow.Author.Tests.{lt-ltb, lt-leb, le-leb, ltb-true}
 use Rattle.prelude.proofs.Absurd.{impossible}
-use Rattle.choices.specs.State.{Choices, Picked, View, view, fresh, answer_left, answer_of, afterwards, Chosen}
-use Rattle.choices.specs.declared.Answer.{Answer}
-use Rattle.choices.specs.declared.Answer.TheVariants.{Taken, Many, Short, Beyond}
+use Rattle.std.specs.Prelude.{Ok, Err}
+use Rattle.prelude.specs.declared.Refusal.TheVariants.{TooManyChoices, EntryTooHigh}
+use Rattle.choices.specs.State.{Answer, Choices, Picked, View, view, fresh, answer_left, answer_of, afterwards, Chosen}
 use Rattle.choices.specs.Tree.{Tree, give, stop, choose, bind, most_choices, Full, Numbered, Run, gave, stopped, short, beyond, follow, run, refuses, unless_left, final}
 use Rattle.choices.specs.Outcome.{Outcome, value, refusal}
 use Rattle.choices.specs.Lists.{Ended, Complete, run_outcome}
@@ -27,25 +27,21 @@ use Rattle.choices.proofs.Walk.{stopped_number}
 -- ---- one after the other
 
 at_same : {A : Type 0} (a : Answer) (p n : ℕ) (v : View) (f g : ℕ → Ran A) → ((c : ℕ) → f c ≡ g c) → on_answer a p n v f ≡ on_answer a p n v g
-at_same (Taken c) p n v f g h = h c
-at_same Many p n v f g h = refl
-at_same Short p n v f g h = refl
-at_same Beyond p n v f g h = refl
+at_same (Ok c) p n v f g h = h c
+at_same (Err r) p n v f g h = refl
 
 further_at : {A B : Type 0} (a : Answer) (p n : ℕ) (v : View) (on : ℕ → Ran A) (f : A → View → Ran B) → further (on_answer a p n v on) f ≡ on_answer a p n v (λ c. further (on c) f)
-further_at (Taken c) p n v on f = refl
-further_at Many p n v on f = refl
-further_at Short p n v on f = refl
-further_at Beyond p n v on f = refl
+further_at (Ok c) p n v on f = refl
+further_at (Err r) p n v on f = refl
 
 -- The run of `bind`: the second from the state that the first left.
 pub run_on_bind : {A B : Type 0} (t : Tree A) (f : A → Tree B) (v : View) → run_on (bind t f) v ≡ further (run_on t v) (λ a w. run_on (f a) w)
 run_on_bind (give a) f v = refl
 run_on_bind (stop r p) f v = refl
 run_on_bind (choose p n ways) f v =
-    at_same (answer_of v n) p n v (λ c. run_on (bind (ways c) f) (afterwards v n (Taken c))) (λ c. further (run_on (ways c) (afterwards v n (Taken c))) (λ a w. run_on (f a) w))
-    (λ c. run_on_bind (ways c) f (afterwards v n (Taken c)))
-    ∙ sym (further_at (answer_of v n) p n v (λ c. run_on (ways c) (afterwards v n (Taken c))) (λ a w. run_on (f a) w))
+    at_same (answer_of v n) p n v (λ c. run_on (bind (ways c) f) (afterwards v n (Ok c))) (λ c. further (run_on (ways c) (afterwards v n (Ok c))) (λ a w. run_on (f a) w))
+    (λ c. run_on_bind (ways c) f (afterwards v n (Ok c)))
+    ∙ sym (further_at (answer_of v n) p n v (λ c. run_on (ways c) (afterwards v n (Ok c))) (λ a w. run_on (f a) w))
 
 pub bind_ran : {A B : Type 0} (t : Tree A) (f : A → Tree B) (v w : View) (a : A) → run_on t v ≡ ran a w → run_on (bind t f) v ≡ run_on (f a) w
 bind_ran {A} {B} t f v w a e = run_on_bind t f v ∙ ap (λ (r : Ran A). further {B = B} r (λ b u. run_on (f b) u)) e
@@ -56,36 +52,34 @@ bind_refused {A} {B} t f v w r p n e = run_on_bind t f v ∙ ap (λ (r : Ran A).
 -- A choice that the code made, by its answer: on with the way taken, or 31, 32 or 33.
 pub chosen_runs : {A : Type 0} (p : ℕ) (ways : ℕ → Tree A) (c : Choices) (n : ℕ) (r : Picked) → Chosen c n r → (a : Answer) → r.answer ≡ a → run_on (choose p n ways) (view c) ≡ on_answer a p n (view r.state) (λ i. run_on (ways i) (view r.state))
 chosen_runs {A} p ways c n r k a e =
-    ap (λ (b : Answer). on_answer b p n (view c) (λ i. run_on (ways i) (afterwards (view c) n (Taken i)))) (sym k.answered ∙ e)
+    ap (λ (b : Answer). on_answer b p n (view c) (λ i. run_on (ways i) (afterwards (view c) n (Ok i)))) (sym k.answered ∙ e)
     ∙ same a
     ∙ ap (λ (v : View). on_answer a p n v (λ i. run_on (ways i) v)) (sym (k.viewed ∙ ap (afterwards (view c) n) e))
   where
-    same : (a : Answer) → on_answer {A = A} a p n (view c) (λ i. run_on (ways i) (afterwards (view c) n (Taken i))) ≡ on_answer a p n (afterwards (view c) n a) (λ i. run_on (ways i) (afterwards (view c) n a))
-    same (Taken i) = refl
-    same Many = refl
-    same Short = refl
-    same Beyond = refl
+    same : (a : Answer) → on_answer {A = A} a p n (view c) (λ i. run_on (ways i) (afterwards (view c) n (Ok i))) ≡ on_answer a p n (afterwards (view c) n a) (λ i. run_on (ways i) (afterwards (view c) n a))
+    same (Ok i) = refl
+    same (Err r) = refl
 
 -- ---- what is taken and given
 
-pick_below : (b : Bool) (c n i : ℕ) → ltb c n ≡ b → cond b (Taken c) Beyond ≡ Taken i → i < n
+pick_below : (b : Bool) (c n i : ℕ) → ltb c n ≡ b → cond b (Ok c) (Err EntryTooHigh) ≡ Ok i → i < n
 pick_below true c n i e h = let d : c ≡ i = cc in omega (arith, ltb-true c n e)
 pick_below false c n i e h = impossible cc
 
-left_below : (l : List ℕ) (g : Bool) (n i : ℕ) → 0 < n → answer_left l g n ≡ Taken i → i < n
+left_below : (l : List ℕ) (g : Bool) (n i : ℕ) → 0 < n → answer_left l g n ≡ Ok i → i < n
 left_below [] true n i h e = let d : ◌≡◌ {A = ℕ} 0 i = cc in omega arith
 left_below [] false n i h e = impossible cc
 left_below (c ∷ l) g n i h e = pick_below (ltb c n) c n i refl e
 
-room_below : (b : Bool) (l : List ℕ) (g : Bool) (n i : ℕ) → 0 < n → cond b Many (answer_left l g n) ≡ Taken i → i < n
+room_below : (b : Bool) (l : List ℕ) (g : Bool) (n i : ℕ) → 0 < n → cond b (Err TooManyChoices) (answer_left l g n) ≡ Ok i → i < n
 room_below true l g n i h e = impossible cc
 room_below false l g n i h e = left_below l g n i h e
 
 -- A way that is taken is one of the n.
-pub taken_below : (v : View) (n i : ℕ) → 0 < n → answer_of v n ≡ Taken i → i < n
+pub taken_below : (v : View) (n i : ℕ) → 0 < n → answer_of v n ≡ Ok i → i < n
 taken_below v n i h e = room_below (leb most_choices (length v.past)) v.left v.grow n i h e
 
-pub chosen_below : (c : Choices) (n i : ℕ) (r : Picked) → 0 < n → Chosen c n r → r.answer ≡ Taken i → i < n
+pub chosen_below : (c : Choices) (n i : ℕ) (r : Picked) → 0 < n → Chosen c n r → r.answer ≡ Ok i → i < n
 chosen_below c n i r h k e = taken_below (view c) n i h (sym k.answered ∙ e)
 
 -- ---- under a list that is given
@@ -96,7 +90,7 @@ state_as (stopped r p l) v = refl
 state_as (short p n) v = refl
 state_as (beyond p n l) v = refl
 
-pick_ran : {A : Type 0} (b : Bool) (c p n : ℕ) (l : List ℕ) (v : View) (on : ℕ → Ran A) (r : Run A) (w : View) → on c ≡ ran_as r w → on_answer (cond b (Taken c) Beyond) p n v on ≡ ran_as (cond b r (beyond p n l)) (cond b w v)
+pick_ran : {A : Type 0} (b : Bool) (c p n : ℕ) (l : List ℕ) (v : View) (on : ℕ → Ran A) (r : Run A) (w : View) → on c ≡ ran_as r w → on_answer (cond b (Ok c) (Err EntryTooHigh)) p n v on ≡ ran_as (cond b r (beyond p n l)) (cond b w v)
 pick_ran true c p n l v on r w h = h
 pick_ran false c p n l v on r w h = refl
 
@@ -188,8 +182,8 @@ run_on_cut (give a) k v e = refl
 run_on_cut (stop r p) k v e = refl
 run_on_cut (choose p n ways) zero v e = rw (le-leb most_choices (length v.past) (omega arith))
 run_on_cut (choose p n ways) (suc k) v e =
-    at_same (answer_of v n) p n v (λ c. run_on (ways c) (afterwards v n (Taken c))) (λ c. run_on (cut_after k (ways c)) (afterwards v n (Taken c)))
-    (λ c. run_on_cut (ways c) k (afterwards v n (Taken c)) (simp length-append (omega arith)))
+    at_same (answer_of v n) p n v (λ c. run_on (ways c) (afterwards v n (Ok c))) (λ c. run_on (cut_after k (ways c)) (afterwards v n (Ok c)))
+    (λ c. run_on_cut (ways c) k (afterwards v n (Ok c)) (simp length-append (omega arith)))
 
 abbrev finish : {A : Type 0} → Outcome A → View → Ran A
 finish (value a) v = ran a v

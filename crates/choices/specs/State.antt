@@ -1,8 +1,9 @@
 -- The state of a run's choices, what it says as lists, and what a choice and the way to the next list do to it. Contracts of lists and the evaluator cite it.
-use Rattle.std.specs.Prelude.{◌≡◌, Bool, true, false, cond, List, [], ◌∷◌, ◌++◌, ℕ, ◌+◌, ◌≤◌, length, take, drop, get_or, set, ltb, leb}
+use Rattle.std.specs.Prelude.{◌≡◌, Bool, true, false, cond, List, [], ◌∷◌, ◌++◌, ℕ, ◌+◌, ◌≤◌, length, take, drop, get_or, set, ltb, leb, Ok, Err}
 use Rattle.std.proofs.Math.Option.{Option, none, some}
-use Rattle.choices.specs.declared.Answer.{Answer}
-use Rattle.choices.specs.declared.Answer.TheVariants.{Taken, Many, Short, Beyond}
+use Rattle.std.specs.declared.result.Result.{Result}
+use Rattle.prelude.specs.declared.Refusal.{Refusal}
+use Rattle.prelude.specs.declared.Refusal.TheVariants.{TooManyChoices, ListTooShort, EntryTooHigh}
 use Rattle.choices.specs.Tree.{most_choices}
 use Rattle.choices.specs.Paths.{raise}
 
@@ -44,15 +45,19 @@ pub record Made (l : List ℕ) (g : Bool) (c : Choices) : Type 0 where
 
 -- ---- one choice
 
+-- The answer to a choice: the way taken, or refusal 31, 32 or 33.
+abbrev pub Answer : Type 0
+Answer = Result ℕ Refusal
+
 -- The answer to a choice among n ways, by the entries left.
 abbrev pub answer_left : List ℕ → Bool → ℕ → Answer
-answer_left [] true n = Taken 0
-answer_left [] false n = Short
-answer_left (c ∷ l) g n = cond (ltb c n) (Taken c) Beyond
+answer_left [] true n = Ok 0
+answer_left [] false n = Err ListTooShort
+answer_left (c ∷ l) g n = cond (ltb c n) (Ok c) (Err EntryTooHigh)
 
 -- One choice too many comes before a list's being used up.
 abbrev pub answer_of : View → ℕ → Answer
-answer_of v n = cond (leb most_choices (length v.past)) Many (answer_left v.left v.grow n)
+answer_of v n = cond (leb most_choices (length v.past)) (Err TooManyChoices) (answer_left v.left v.grow n)
 
 abbrev pub after_first : List ℕ → List ℕ
 after_first [] = []
@@ -60,10 +65,8 @@ after_first (c ∷ l) = l
 
 -- The state after an answer to a choice among n ways.
 abbrev pub afterwards : View → ℕ → Answer → View
-afterwards v n (Taken c) = record { past = v.past ++ c ∷ []; met = v.met ++ n ∷ []; left = after_first v.left; grow = v.grow }
-afterwards v n Many = v
-afterwards v n Short = v
-afterwards v n Beyond = v
+afterwards v n (Ok c) = record { past = v.past ++ c ∷ []; met = v.met ++ n ∷ []; left = after_first v.left; grow = v.grow }
+afterwards v n (Err r) = v
 
 -- An answer to a choice, and the state after it.
 pub record Picked : Type 0 where

@@ -1,4 +1,4 @@
-// A walk, document 01's term: 64 entries and a length. Zeros follow the list's end.
+// A walk: 64 entries and a length. Zeros follow the list's end. An array with a length beside it, since no memory is allocated, and C lends it so.
 ghost use Rattle.std.specs.Prelude.{[]};
 ghost use Rattle.choices.specs.Listing.{Lists};
 

@@ -7,7 +7,8 @@ use lib.Dec.{eqb}
 use lib.ListN.{length, get_or, take, drop, set, length-set}
 use lib.Seq.{get_or-take, get_or-drop, get_or-set_same, get_or-set_other, take-set-le, take-set-lt, drop-set-add, drop-set-lt}
 use borrow.Author.Tests.{eq-eqb, ne_eqb}
-use Rattle.choices.specs.declared.Answer.TheVariants.{Taken, Many, Short, Beyond}
+use Rattle.std.specs.Prelude.{Ok, Err}
+use Rattle.prelude.specs.declared.Refusal.TheVariants.{TooManyChoices, ListTooShort, EntryTooHigh}
 use Rattle.choices.specs.Tree.{most_choices}
 use Rattle.choices.specs.State.{Invariant, Chosen, taking}
 use Rattle.choices.proofs.States.{left_cons, left_nil}
@@ -33,13 +34,13 @@ module _ (l : List ℕ) (s : Invariant (lent l)) where
   due_none k e h = rw (eq-eqb k 13 e) (ap first (left_nil (take most_choices (drop 3 l)) used (get_or l 0 0) h))
 
   module _ (n : ℕ) where
-    pub lent_many : most_choices ≤ used → Chosen (lent l) n (record { answer = Many; state = lent l })
+    pub lent_many : most_choices ≤ used → Chosen (lent l) n (record { answer = Err TooManyChoices; state = lent l })
     lent_many h = many_law (lent l) n s h
 
-    pub lent_beyond : used < most_choices → used < get_or l 0 0 → n ≤ get_or l (3 + used) 0 → Chosen (lent l) n (record { answer = Beyond; state = lent l })
+    pub lent_beyond : used < most_choices → used < get_or l 0 0 → n ≤ get_or l (3 + used) 0 → Chosen (lent l) n (record { answer = Err EntryTooHigh; state = lent l })
     lent_beyond h k b = beyond_law (lent l) n s h k (omega (arith, entry-is h))
 
-    pub lent_short : used < most_choices → get_or l 0 0 ≤ used → (get_or l 2 0 ≡ 1 → ⊥) → Chosen (lent l) n (record { answer = Short; state = lent l })
+    pub lent_short : used < most_choices → get_or l 0 0 ≤ used → (get_or l 2 0 ≡ 1 → ⊥) → Chosen (lent l) n (record { answer = Err ListTooShort; state = lent l })
     lent_short h k b = short_law (lent l) n s h k (ne_eqb (get_or l 2 0) 1 b)
 
     module _ (h : used < most_choices) where
@@ -74,9 +75,9 @@ module _ (l : List ℕ) (s : Invariant (lent l)) where
             grow = ap (λ (x : ℕ). eqb x 1) (get_or-set_other written 1 2 (used + 1) 0 (λ e. omega arith) ∙ number_kept 2 (omega arith)) i;
           }
 
-      pub lent_chosen : used < get_or l 0 0 → {x : ℕ} → x ≡ get_or l (3 + used) 0 → x < n → Chosen (lent l) n (record { answer = Taken x; state = lent (set written 1 (used + 1)) })
+      pub lent_chosen : used < get_or l 0 0 → {x : ℕ} → x ≡ get_or l (3 + used) 0 → x < n → Chosen (lent l) n (record { answer = Ok x; state = lent (set written 1 (used + 1)) })
       lent_chosen k {x} e b =
-          subst (λ (y : ℕ). Chosen (lent l) n (record { answer = Taken y; state = lent (set written 1 (used + 1)) })) (entry-is h ∙ sym e)
+          subst (λ (y : ℕ). Chosen (lent l) n (record { answer = Ok y; state = lent (set written 1 (used + 1)) })) (entry-is h ∙ sym e)
           (taken_law (lent l) n s (lent (set written 1 (used + 1))) lent_taken h k (omega (arith, entry-is h)))
 
       abbrev longer : List ℕ
@@ -92,5 +93,5 @@ module _ (l : List ℕ) (s : Invariant (lent l)) where
             grow = ap (λ (x : ℕ). eqb x 1) (get_or-set_other longer 1 2 (used + 1) 0 (λ e. omega arith) ∙ get_or-set_other written 0 2 (used + 1) 0 (λ e. omega arith) ∙ number_kept 2 (omega arith)) i;
           }
 
-      pub lent_extended : get_or l 0 0 ≤ used → get_or l 2 0 ≡ 1 → Chosen (lent l) n (record { answer = Taken 0; state = lent (set longer 1 (used + 1)) })
+      pub lent_extended : get_or l 0 0 ≤ used → get_or l 2 0 ≡ 1 → Chosen (lent l) n (record { answer = Ok 0; state = lent (set longer 1 (used + 1)) })
       lent_extended k b = grown_law (lent l) n s (lent (set longer 1 (used + 1))) lent_grown h k (eq-eqb (get_or l 2 0) 1 b)

@@ -5,10 +5,9 @@ ghost use Rattle.lists.specs.Lent.{lent};
 ghost use Rattle.lists.specs.Choosing.{due_for, Picks};
 
 use crate::{ENTRIES, GROW, LEN, Run, USED, WAYS};
-use choices::Answer;
 use choices::list::Walk;
+use prelude::Refusal;
 use tables::kinds;
-use tables::shape::wide;
 
 // Which of the satisfying bindings is wanted: by a let-be the one that it will choose, by other binders the first.
 pub fn wanted(run: &Run, k: usize) -> usize
@@ -18,50 +17,49 @@ pub fn wanted(run: &Run, k: usize) -> usize
     if k != kinds::LET_BE {
         return 0;
     }
-    let used = run[USED] as usize;
-    let len = run[LEN] as usize;
+    let used = usize::from(run[USED]);
+    let len = usize::from(run[LEN]);
     if used < len {
-        return wide(run[ENTRIES + used]);
+        return usize::from(run[ENTRIES + used]);
     }
     0
 }
 
 // A choice among n ways takes the next entry.
-pub fn choose(run: &mut Run, n: usize) -> Answer
+pub fn choose(run: &mut Run, n: usize) -> Result<usize, Refusal>
     requires { Invariant (lent run.old) × (0 < n) × (n < 256) }
     ensures { Chosen (lent run.old) n (record { answer = result; state = lent run.new }) }
 {
-    let used = run[USED] as usize;
+    let used = usize::from(run[USED]);
     if Walk::LIMIT <= used {
-        return Answer::Many;
+        return Err(Refusal::TooManyChoices);
     }
-    let len = run[LEN] as usize;
+    let len = usize::from(run[LEN]);
     if used < len {
-        let entry = wide(run[ENTRIES + used]);
+        let entry = usize::from(run[ENTRIES + used]);
         if n <= entry {
-            return Answer::Beyond;
+            return Err(Refusal::EntryTooHigh);
         }
         run[WAYS + used] = n as u8;
         run[USED] = (used + 1) as u8;
-        return Answer::Taken(entry);
+        return Ok(entry);
     }
-    let grow = wide(run[GROW]);
-    if grow == 1 {
+    if run[GROW] == 1 {
         run[WAYS + used] = n as u8;
         run[LEN] = (used + 1) as u8;
         run[USED] = (used + 1) as u8;
-        return Answer::Taken(0);
+        return Ok(0);
     }
-    Answer::Short
+    Err(Refusal::ListTooShort)
 }
 
 // A loose let chooses among its n bindings, another takes its only one.
-pub fn decide(run: &mut Run, n: usize, loose: bool) -> Answer
+pub fn decide(run: &mut Run, n: usize, loose: bool) -> Result<usize, Refusal>
     requires { Invariant (lent run.old) × (0 < n) × (n < 256) }
     ensures { Picks loose (lent run.old) n result (lent run.new) }
 {
     if loose {
         return choose(run, n);
     }
-    Answer::Taken(0)
+    Ok(0)
 }

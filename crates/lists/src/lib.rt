@@ -11,7 +11,6 @@ ghost use Rattle.lists.specs.Lent.{run_bytes, lent};
 ghost use Rattle.lists.specs.Runs.{UsedWhole, SameList, restarted};
 
 use choices::list::Walk;
-use tables::shape::wide;
 
 // Where the length of the list stands, the number of entries that are used, and 1 where a list that is used up grows.
 pub const LEN: usize = 0;
@@ -36,13 +35,9 @@ pub fn start(list: &[u8], grow: bool) -> Run
     ensures { Made list.now grow (lent result) }
 {
     let mut run = [0u8; RUN];
-    let mut i = 0;
-    while i < list.len() {
-        run[ENTRIES + i] = list[i];
-        i += 1;
-    }
+    run[ENTRIES..ENTRIES + list.len()].copy_from_slice(list);
     run[LEN] = list.len() as u8;
-    run[GROW] = grow as u8;
+    run[GROW] = u8::from(grow);
     run
 }
 
@@ -51,9 +46,7 @@ pub fn start_walk(walk: Walk, grow: bool) -> Run
     requires { Runnable walk }
     ensures { Made (list_held walk) grow (lent result) }
 {
-    let entries = walk.entries;
-    let len = walk.len;
-    start(&entries[..len], grow)
+    start(&walk.entries[..walk.len], grow)
 }
 
 // The start of a run that grows, under the first `len` entries that are there.
@@ -71,18 +64,14 @@ pub fn advance(run: &mut Run) -> bool
     requires { UsedWhole run.old }
     ensures { Moved (lent run.old) (record { more = result; state = lent run.new }) }
 {
-    let mut i = wide(run[USED]);
-    while 0 < i {
-        let at = i - 1;
-        let entry = wide(run[ENTRIES + at]);
-        let ways = wide(run[WAYS + at]);
-        if entry + 1 < ways {
-            run[ENTRIES + at] = (entry + 1) as u8;
-            restart(run, i);
+    for i in (0..usize::from(run[USED])).rev() {
+        let next = usize::from(run[ENTRIES + i]) + 1;
+        if next < usize::from(run[WAYS + i]) {
+            run[ENTRIES + i] = next as u8;
+            restart(run, i + 1);
             return true;
         }
-        run[ENTRIES + at] = 0;
-        i = at;
+        run[ENTRIES + i] = 0;
     }
     restart(run, 0);
     false
@@ -94,13 +83,9 @@ pub fn list_of(run: &Run) -> Walk
     ensures { SameList run.now result }
 {
     let mut entries = [0u8; Walk::LIMIT];
-    let mut i = 0;
-    while i < Walk::LIMIT {
-        entries[i] = run[ENTRIES + i];
-        i += 1;
-    }
+    entries.copy_from_slice(&run[ENTRIES..WAYS]);
     Walk {
         entries,
-        len: wide(run[LEN]),
+        len: usize::from(run[LEN]),
     }
 }

@@ -6,8 +6,8 @@ use Rattle.std.proofs.Math.Option.{Option, none as absent, some}
 use Rattle.choices.specs.Tree.{Tree, run, Final, result, refuses, final, most_choices}
 use Rattle.choices.specs.Paths.{first_list, next_list}
 use Rattle.values.specs.Value.{Value, value_limit as largest}
-use Rattle.tables.specs.declared.Checked.{Checked}
-use Rattle.tables.specs.declared.Checked.TheVariants.{Accepted, Refused}
+use Rattle.std.specs.Prelude.{Ok, Err}
+use Rattle.tables.specs.Faults.{Checked, number_of}
 use Rattle.tables.specs.Check.{check}
 use Rattle.meaning.specs.State.{unbound}
 use Rattle.meaning.specs.Meaning.{Sheet, meaning}
@@ -33,8 +33,8 @@ unless bad n answer = cond bad (refuses n 0 0) answer
 
 -- Rules 3 to 9, then what follows on the number of records.
 abbrev pub accepted : {A : Type 0} → Checked → (ℕ → Final A) → Final A
-accepted (Accepted n) f = f n
-accepted (Refused n p) f = refuses n p 0
+accepted (Ok n) f = f n
+accepted (Err e) f = refuses (number_of e.rule) e.place 0
 
 -- ---- check and evaluate
 

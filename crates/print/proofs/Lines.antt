@@ -4,7 +4,11 @@ use mathlib.Core.List.{List, [], ◌∷◌, ◌++◌, map as each, append_assoc}
 use Prim.Native.Nat.{ℕ, suc, ◌+◌, ◌*◌, ◌≤◌, ◌<◌}
 use native.Mathlib.Omega.{arith}
 use lib.ListN.{length, get_or, set, length-append, length-set}
-use Rattle.choices.specs.Tree.{Final, most_choices}
+use Rattle.std.specs.Prelude.{Option, Some, None}
+use Rattle.prelude.proofs.Absurd.{impossible}
+use Rattle.prelude.specs.declared.Refusal.{Refusal}
+use Rattle.prelude.specs.Refusals.{number_of}
+use Rattle.choices.specs.Tree.{Final, refuses, most_choices}
 use Rattle.values.specs.Value.{Value}
 use Rattle.values.specs.Place.{Holds}
 use Rattle.values.proofs.Records.{holds}
@@ -14,28 +18,25 @@ use Rattle.print.specs.Contract.{Wrote, Room, ValueRoom, ValueWritten, longest_o
 use Rattle.print.proofs.Writing.{wrote_length, wrote_then, wrote_byte, wrote_after, wrote_as}
 use Rattle.print.proofs.Decimals.{decimal_byte, decimal_any}
 use Rattle.print.proofs.Spelling.{text_short}
-use Rattle.print.proofs.Wording.{word_short}
+use Rattle.print.proofs.Wording.{number_most, word_short}
 
 -- ---- how long
 
-module _ {s : List ℕ} {n : ℕ} where
-  value_held : {answer : Final Value} → n ≡ 0 → Answers s n answer → Holds s 0
+module _ {s : List ℕ} {o : Option Refusal} where
+  value_held : {answer : Final Value} → o ≡ None → Answers s o answer → Holds s 0
   value_held e (gave d v f h) = holds h
-  value_held e (refused low high p k f) = absurd (omega arith)
+  value_held e (refused q d p k f) = impossible cc
 
-  pub refused_range : {answer : Final Value} → (n ≡ 0 → ⊥) → Answers s n answer → (20 ≤ n) × (n ≤ 31)
-  refused_range f (gave d v e h) = absurd (f d)
-  refused_range f (refused low high p k e) = (low, high)
-
-  pub outcome_short : {answer : Final Value} → Answers s n answer → length (outcome_text answer) ≤ longest_outcome
+  pub outcome_short : {answer : Final Value} → Answers s o answer → length (outcome_text answer) ≤ longest_outcome
   outcome_short (gave d v e h) =
       let l = text_short v h.fine.sound in
       let m = h.fine.short in
       omega (arith, ap length (ap outcome_text e))
-  outcome_short (refused low high p k e) =
-      let d = decimal_any n (omega arith) in
-      let w = word_short n high in
-      omega (arith, ap length (ap outcome_text e), length-append (decimal n) (space ∷ refusal_word n))
+  outcome_short (refused q d p k e) =
+      let n = number_most q in
+      let m = decimal_any (number_of q) (omega arith) in
+      let w = word_short q in
+      omega (arith, ap length (ap outcome_text e), length-append (decimal (number_of q)) (space ∷ refusal_word (number_of q)))
 
 continued_short : (l : List ℕ) → ((i : ℕ) → get_or l i 0 < 256) → length (continued (each decimal l)) ≤ 4 * length l
 continued_short [] h = omega arith
@@ -56,34 +57,32 @@ line_length l answer =
     omega (arith, length-append (list_text l ++ space ∷ outcome_text answer) (newline ∷ []), length-append (list_text l) (space ∷ outcome_text answer))
 
 -- THEOREM: no line of a list of at most 64 bytes is longer than the longest line
-pub longest_line_lem : (l : List ℕ) → ((i : ℕ) → get_or l i 0 < 256) → length l ≤ most_choices → {s : List ℕ} {n : ℕ} {answer : Final Value} → Answers s n answer → length (line l answer) ≤ longest_line
-longest_line_lem l h few {s} {n} {answer} a = let d = list_short l h few in let e = outcome_short a in omega (arith, line_length l answer)
+pub longest_line_lem : (l : List ℕ) → ((i : ℕ) → get_or l i 0 < 256) → length l ≤ most_choices → {s : List ℕ} {o : Option Refusal} {answer : Final Value} → Answers s o answer → length (line l answer) ≤ longest_line
+longest_line_lem l h few {s} {o} {answer} a = let d = list_short l h few in let e = outcome_short a in omega (arith, line_length l answer)
 
 -- ---- an outcome
 
-module _ {s out : List ℕ} {n at : ℕ} (r : OutcomeRoom s n out at) where
-  pub outcome_value : n ≡ 0 → ValueRoom s 0 (set out at equals) (at + 1)
+module _ {s out : List ℕ} {o : Option Refusal} {at : ℕ} (r : OutcomeRoom s o out at) where
+  pub outcome_value : o ≡ None → ValueRoom s 0 (set out at equals) (at + 1)
   outcome_value e =
       let h = value_held e r.answered.answers in
       record { held = h; room = omega (arith, length-set out at equals) }
 
-  pub outcome_refused : (n ≡ 0 → ⊥) → (20 ≤ n) × (n ≤ 31)
-  outcome_refused f = refused_range f r.answered.answers
+pub value_shown : {s out out' : List ℕ} {o : Option Refusal} {at r : ℕ} → o ≡ None → ValueWritten s 0 (set out at equals) out' (at + 1) r → OutcomeWritten s o out out' at r
+value_shown {s} {out} {out'} {o} {at} {r} e w answer (gave d v f h) = wrote_as (ap outcome_text (sym f)) (wrote_after equals (w v h))
+value_shown e w answer (refused q d p k f) = impossible cc
 
-pub value_shown : {s out out' : List ℕ} {n at r : ℕ} → n ≡ 0 → ValueWritten s 0 (set out at equals) out' (at + 1) r → OutcomeWritten s n out out' at r
-value_shown {s} {out} {out'} {n} {at} {r} e w answer (gave d v f h) = wrote_as (ap outcome_text (sym f)) (wrote_after equals (w v h))
-value_shown e w answer (refused low high p k f) = absurd (omega arith)
-
-pub refusal_written : {s out t u : List ℕ} {n at p q : ℕ} → (n ≡ 0 → ⊥) → Wrote (set out at exclamation) t (at + 1) (decimal n) p → Wrote (set t p space) u (p + 1) (refusal_word n) q → OutcomeWritten s n out u at q
-refusal_written f x y answer (gave d w e h) = absurd (f d)
-refusal_written {s} {out} {t} {u} {n} {at} {p} {q} f x y answer (refused low high p' k e) =
+pub refusal_written : {s out t u : List ℕ} {o : Option Refusal} {at p q : ℕ} (r : Refusal) → o ≡ Some r → Wrote (set out at exclamation) t (at + 1) (decimal (number_of r)) p → Wrote (set t p space) u (p + 1) (refusal_word (number_of r)) q → OutcomeWritten s o out u at q
+refusal_written r f x y answer (gave d w e h) = impossible cc
+refusal_written r f x y answer (refused r' d p' k e) =
+    let same : r' ≡ r = cc in
     wrote_as
-    (append_assoc (exclamation ∷ decimal n) (space ∷ []) (refusal_word n) ∙ ap outcome_text (sym e))
+    (append_assoc (exclamation ∷ decimal (number_of r)) (space ∷ []) (refusal_word (number_of r)) ∙ ap (λ (z : Refusal). outcome_text (refuses (number_of z) p' k)) (sym same) ∙ ap outcome_text (sym e))
     (wrote_then (wrote_byte space (wrote_after exclamation x)) y)
 
 -- ---- a line
 
-module _ {l s out : List ℕ} {n at : ℕ} (bytes : (i : ℕ) → get_or l i 0 < 256) (r : LineRoom l n s out at) where
+module _ {l s out : List ℕ} {o : Option Refusal} {at : ℕ} (bytes : (i : ℕ) → get_or l i 0 < 256) (r : LineRoom l o s out at) where
   short : length (list_text l) ≤ 255
   short = list_short l bytes r.few
 
@@ -94,24 +93,24 @@ module _ {l s out : List ℕ} {n at : ℕ} (bytes : (i : ℕ) → get_or l i 0 <
     pub space_room : p < length t
     space_room = omega (arith, short, wrote_length w)
 
-    pub outcome_room : OutcomeRoom s n (set t p space) (p + 1)
+    pub outcome_room : OutcomeRoom s o (set t p space) (p + 1)
     outcome_room = record { answered = r.answered; room = omega (arith, short, wrote_length w, length-set t p space) }
 
-    module _ {u : List ℕ} {q : ℕ} (o : OutcomeWritten s n (set t p space) u (p + 1) q) where
+    module _ {u : List ℕ} {q : ℕ} (w' : OutcomeWritten s o (set t p space) u (p + 1) q) where
       last_low : q < at + longest_line
-      last_low = let a = r.answered in omega (arith, short, w.ends, (o a.answer a.answers).ends, outcome_short a.answers)
+      last_low = let a = r.answered in omega (arith, short, w.ends, (w' a.answer a.answers).ends, outcome_short a.answers)
 
       pub newline_room : q < length u
       newline_room =
           let a = r.answered in
-          omega (arith, last_low, wrote_length w, length-set t p space, wrote_length (o a.answer a.answers))
+          omega (arith, last_low, wrote_length w, length-set t p space, wrote_length (w' a.answer a.answers))
 
-      pub line_written : LineWritten l n s out (set u q newline) at (q + 1)
+      pub line_written : LineWritten l o s out (set u q newline) at (q + 1)
       line_written =
           record {
             right =
                 λ answer a. wrote_as
                 (ap (λ (ws : List ℕ). ws ++ newline ∷ []) (append_assoc (list_text l) (space ∷ []) (outcome_text answer)))
-                (wrote_byte newline (wrote_then (wrote_byte space w) (o answer a)));
+                (wrote_byte newline (wrote_then (wrote_byte space w) (w' answer a)));
             within = omega (arith, last_low);
           }

@@ -8,8 +8,10 @@ use Rattle.choices.specs.Tree.{most_choices}
 use Rattle.choices.proofs.Order.{asc_same}
 use Rattle.choices.proofs.Paths.{paths_ascend}
 use Rattle.choices.proofs.Cut.{complete_path}
-use Rattle.tables.specs.declared.Checked.{Checked}
-use Rattle.tables.specs.declared.Checked.TheVariants.{Accepted, Refused}
+use Rattle.std.specs.Prelude.{Ok}
+use Rattle.tables.specs.declared.Rule.{Rule}
+use Rattle.tables.specs.Faults.{Checked, faulty, number_of}
+use Rattle.tables.specs.declared.Rule.TheVariants.{WrongSize}
 use Rattle.tables.specs.Check.{most_bytes, judged_cut, check}
 use Rattle.tables.specs.Table.{cut}
 use Rattle.meaning.specs.Service.{tree}
@@ -30,25 +32,25 @@ one_complete table ls ms a b =
     asc_same ls ms a.ascending b.ascending (λ l. (λ h. (b.exactly l).1 ((a.exactly l).0 h), λ h. (a.exactly l).1 ((b.exactly l).0 h)))
 
 -- THEOREM: the print of an accepted table, over all its complete lists in dictionary order.
-pub print_accepted : (table : List ℕ) (count : ℕ) (lists : List (List ℕ)) → check table ≡ Accepted count → AllComplete table lists → print_of table ≡ first_line count ++ walked table lists
+pub print_accepted : (table : List ℕ) (count : ℕ) (lists : List (List ℕ)) → check table ≡ Ok count → AllComplete table lists → print_of table ≡ first_line count ++ walked table lists
 print_accepted table count lists ok all =
     ap (printed table) ok ∙ ap (λ (ls : List (List ℕ)). first_line count ++ walked table ls) (one_complete table (all_lists (tree table)) lists (all_complete table) all)
 
 -- A refused table prints only that.
-pub print_refused : (table : List ℕ) (number place : ℕ) → check table ≡ Refused number place → print_of table ≡ refused_line number place
-print_refused table number place e = ap (printed table) e
+pub print_refused : (table : List ℕ) (rule : Rule) (place : ℕ) → check table ≡ faulty rule place → print_of table ≡ refused_line (number_of rule) place
+print_refused table rule place e = ap (printed table) e
 
 -- More than 2,400 bytes are refused with 3 and place 0.
-too_long : (table : List ℕ) → most_bytes < length table → check table ≡ Refused 3 0
+too_long : (table : List ℕ) → most_bytes < length table → check table ≡ faulty WrongSize 0
 unfolding check
 too_long table h = rw (lt-ltb most_bytes (length table) h) (go (eqb (length table) 0) (judged_cut (cut table)))
   where
-    go : (b : Bool) (later : Checked) → cond (b || true) (Refused 3 0) later ≡ Refused 3 0
+    go : (b : Bool) (later : Checked) → cond (b || true) (faulty WrongSize 0) later ≡ faulty WrongSize 0
     go true later = refl
     go false later = refl
 
 pub print_long : (table : List ℕ) → most_bytes < length table → print_of table ≡ refused_line 3 0
-print_long table h = print_refused table 3 0 (too_long table h)
+print_long table h = print_refused table WrongSize 0 (too_long table h)
 
 -- The last line is `cut 10000` exactly when a 10,001st list exists.
 pub last_cut : (count : ℕ) → most_lines < count → last_line count ≡ cut_line

@@ -1,59 +1,37 @@
--- The constant table has the words of 20 to 31: its rule is one equation, computed over all its rows.
-use mathlib.Core.Path.{◌≡◌, refl, sym, ap, ◌∙◌}
-use mathlib.Core.List.{List, [], ◌∷◌, map as each}
+-- The words of refusals are short.
+use mathlib.Core.Path.{refl}
+use mathlib.Core.List.{[]}
 use Prim.Native.Nat.{ℕ, ◌-◌, ◌≤◌}
 use native.Mathlib.Omega.{arith}
-use borrow.Author.Tests.{leb-true, eqb-true}
-use lib.Dec.{leb, eqb}
-use lib.ListN.{length, get_or, take, get_or-map}
+use borrow.Author.Tests.{leb-true}
+use lib.Dec.{leb}
+use lib.ListN.{length, get_or}
+use Rattle.prelude.specs.declared.Refusal.{Refusal}
+use Rattle.prelude.specs.declared.Refusal.TheVariants.{WrongKind, OutOfRange, ByZero, NoMatch, NoBinding, NotUnique, NotThere, Clash, TooLarge, TooLargeToSplit, TooManyBindings, TooManyChoices, ListTooShort, EntryTooHigh, EntriesLeft}
+use Rattle.prelude.specs.Refusals.{number_of}
 use Rattle.tables.proofs.Laws.Tests.{each as for_each}
-use Rattle.print.specs.declared.Word.{Word}
-use Rattle.print.specs.Ascii.{ascii}
 use Rattle.print.specs.Text.{words, refusal_word}
 
-abbrev row : List ℕ → ℕ → Word
-row letters len = record { letters = letters; len = len }
-
-abbrev rows : List Word
-rows =
-    row (ascii "kind______") 4
-    ∷ row (ascii "range_____") 5
-    ∷ row (ascii "zero______") 4
-    ∷ row (ascii "no-match__") 8
-    ∷ row (ascii "no-binding") 10
-    ∷ row (ascii "not-unique") 10
-    ∷ row (ascii "absent____") 6
-    ∷ row (ascii "clash_____") 5
-    ∷ row (ascii "large_____") 5
-    ∷ row (ascii "split_____") 5
-    ∷ row (ascii "bindings__") 8
-    ∷ row (ascii "choices___") 7 ∷ []
-
-abbrev other : Word
-other = row [] 0
-
-abbrev pub row_of : ℕ → Word
-row_of j = get_or rows j other
-
-abbrev spell : Word → List ℕ
-spell w = take w.len w.letters
-
--- every row spells its word
-all_words : each spell rows ≡ words
-all_words = refl
-
-pub word_of : (x : ℕ) → spell (row_of (x - 20)) ≡ refusal_word x
+short : (n : ℕ) → n ≤ 34 → length (refusal_word n) ≤ 10
 unfolding refusal_word
-word_of x = sym (get_or-map spell rows (x - 20) other) ∙ ap (λ (ws : List (List ℕ)). get_or ws (x - 20) []) all_words
+short n h = leb-true _ _ (for_each (λ j. leb (length (get_or words j [])) 10) 15 refl (n - 20) (omega arith))
 
-module _ (x : ℕ) (high : x ≤ 31) where
-  -- ten letters, of which at most ten count
-  pub row_ten : length (row_of (x - 20)).letters ≡ 10
-  row_ten = eqb-true _ _ (for_each (λ j. eqb (length (row_of j).letters) 10) 12 refl (x - 20) (omega arith))
+pub number_most : (q : Refusal) → number_of q ≤ 34
+number_most WrongKind = omega arith
+number_most OutOfRange = omega arith
+number_most ByZero = omega arith
+number_most NoMatch = omega arith
+number_most NoBinding = omega arith
+number_most NotUnique = omega arith
+number_most NotThere = omega arith
+number_most Clash = omega arith
+number_most TooLarge = omega arith
+number_most TooLargeToSplit = omega arith
+number_most TooManyBindings = omega arith
+number_most TooManyChoices = omega arith
+number_most ListTooShort = omega arith
+number_most EntryTooHigh = omega arith
+number_most EntriesLeft = omega arith
 
-  pub row_short : (row_of (x - 20)).len ≤ 10
-  row_short = leb-true _ _ (for_each (λ j. leb (row_of j).len 10) 12 refl (x - 20) (omega arith))
-
-  pub word_short : length (refusal_word x) ≤ 10
-  unfolding refusal_word
-  word_short = leb-true _ _ (for_each (λ j. leb (length (get_or words j [])) 10) 12 refl (x - 20) (omega arith))
+pub word_short : (q : Refusal) → length (refusal_word (number_of q)) ≤ 10
+word_short q = short (number_of q) (number_most q)

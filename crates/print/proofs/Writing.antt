@@ -1,11 +1,11 @@
 -- One text written after another, and bytes copied one by one.
 use mathlib.Core.Path.{◌≡◌, refl, sym, ap, ◌∙◌}
-use mathlib.Core.List.{List, [], ◌∷◌, ◌++◌}
-use Prim.Native.Nat.{ℕ, suc, ◌+◌, ◌≤◌, ◌<◌}
-use native.Mathlib.Nat.{add-zero}
+use mathlib.Core.List.{List, [], ◌∷◌, ◌++◌, append_assoc}
+use Prim.Native.Nat.{ℕ, ◌+◌, ◌≤◌}
 use native.Mathlib.Omega.{arith}
-use lib.ListN.{length, get_or, set, drop, length-append, length-set}
-use lib.Seq.{sets, length-sets, drop-cons, drop-length}
+use lib.ListN.{length, set, take, drop, length-append}
+use lib.Seq.{sets, sets-eq, length-sets, drop-drop}
+use borrow.Rule.Slice.PartMut.{put_mid}
 use Rattle.integers.proofs.Written.{sets_then}
 use Rattle.print.specs.Contract.{Wrote}
 
@@ -41,33 +41,8 @@ wrote_as {s} {t} {at} {r} e w = rw e at w
 
 -- ---- copying
 
--- of the bytes the first i are copied: what is left of them comes to the same as all
-pub record Copying (bytes out₀ : List ℕ) (at : ℕ) (out : List ℕ) (i : ℕ) : Type 0 where
-  pub within : i ≤ length bytes
-  pub long : length out ≡ length out₀
-  pub rest : sets out (at + i) (drop i bytes) ≡ sets out₀ at bytes
-
-module _ (bytes out₀ : List ℕ) (at : ℕ) where
-  pub copying_start : Copying bytes out₀ at out₀ 0
-  copying_start = record { within = omega arith; long = refl; rest = ap (λ (j : ℕ). sets out₀ j bytes) (add-zero at) }
-
-  pub text_copied_more : {out : List ℕ} {i : ℕ} → i < length bytes → Copying bytes out₀ at out i → Copying bytes out₀ at (set out (at + i) (get_or bytes i 0)) (i + 1)
-  text_copied_more {out} {i} h c =
-      let b = get_or bytes i 0 in
-      let e : at + (i + 1) ≡ suc (at + i) = omega arith in
-      let f : i + 1 ≡ suc i = omega arith in
-      record {
-        within = omega arith;
-        long = length-set out (at + i) b ∙ c.long;
-        rest =
-            ap (λ (j : ℕ). sets (set out (at + i) b) j (drop (i + 1) bytes)) e
-            ∙ ap (λ (j : ℕ). sets (set out (at + i) b) (suc (at + i)) (drop j bytes)) f
-            ∙ ap (λ (l : List ℕ). sets out (at + i) l) (sym (drop-cons bytes i 0 h))
-            ∙ c.rest;
-      }
-
-  pub copying_end : {out : List ℕ} {i : ℕ} → length bytes ≤ i → Copying bytes out₀ at out i → Wrote out₀ out at bytes (at + i)
-  copying_end {out} {i} h c =
-      let e : i ≡ length bytes = omega arith in
-      let d : drop i bytes ≡ [] = ap (λ (j : ℕ). drop j bytes) e ∙ drop-length bytes in
-      record { bytes_set = ap (λ (l : List ℕ). sets out (at + i) l) (sym d) ∙ c.rest; ends = omega arith }
+-- A text that was copied over the part of a slice as long as it.
+pub wrote_part : (out bytes copied : List ℕ) (at k : ℕ) → at + length bytes ≤ length out → copied ≡ bytes → k ≡ length bytes → put_mid at k out copied ≡ sets out at bytes
+wrote_part out bytes copied at k room e f =
+    let same : put_mid at k out copied ≡ take at out ++ (bytes ++ drop (at + length bytes) out) = rw (f, e) (ap (λ (zs : List ℕ). take at out ++ (bytes ++ zs)) (drop-drop (length bytes) at out)) in
+    same ∙ sym (append_assoc (take at out) bytes (drop (at + length bytes) out)) ∙ sym (sets-eq bytes out at room)

@@ -1,6 +1,8 @@
 -- What the functions that write text ask and promise.
-use Rattle.std.specs.Prelude.{◌≡◌, Bool, true, false, List, [], ◌∷◌, ◌++◌, ℕ, ◌+◌, ◌*◌, ◌-◌, ◌≤◌, length}
+use Rattle.std.specs.Prelude.{◌≡◌, Bool, true, false, List, [], ◌∷◌, ◌++◌, ℕ, ◌+◌, ◌*◌, ◌-◌, ◌≤◌, length, Option, Some, None}
 use Rattle.std.proofs.lemmas.List.Edits.{sets}
+use Rattle.prelude.specs.declared.Refusal.{Refusal}
+use Rattle.prelude.specs.Refusals.{number_of}
 use Rattle.choices.specs.Tree.{Final, result, refuses, most_choices}
 use Rattle.integers.specs.Bytes.{word as length_at}
 use Rattle.values.specs.Value.{value_limit, Kind, set, sequence, map, tuple, number, Value, Items, none, more}
@@ -93,28 +95,28 @@ Closed kind out out' at r = (k : Kind) → kind ≡ number k → Wrote out out' 
 
 -- ---- outcomes and lines
 
--- What evaluating answered: number 0 and a value at the start of the scratch s, or a refusal 20 to 31.
-pub data Answers (s : List ℕ) (n : ℕ) (answer : Final Value) : Type 0 where
-  gave : n ≡ 0 → (v : Value) → answer ≡ result v → At s 0 v → Answers s n answer
-  refused : 20 ≤ n → n ≤ 31 → (p k : ℕ) → answer ≡ refuses n p k → Answers s n answer
+-- What evaluating answered: a value at the start of the scratch s, or a refusal.
+pub data Answers (s : List ℕ) (o : Option Refusal) (answer : Final Value) : Type 0 where
+  gave : o ≡ None → (v : Value) → answer ≡ result v → At s 0 v → Answers s o answer
+  refused : (q : Refusal) → o ≡ Some q → (p k : ℕ) → answer ≡ refuses (number_of q) p k → Answers s o answer
 
-pub record Answered (s : List ℕ) (n : ℕ) : Type 0 where
+pub record Answered (s : List ℕ) (o : Option Refusal) : Type 0 where
   pub answer : Final Value
-  pub answers : Answers s n answer
+  pub answers : Answers s o answer
 
-pub record OutcomeRoom (s : List ℕ) (n : ℕ) (out : List ℕ) (at : ℕ) : Type 0 where
-  pub answered : Answered s n
+pub record OutcomeRoom (s : List ℕ) (o : Option Refusal) (out : List ℕ) (at : ℕ) : Type 0 where
+  pub answered : Answered s o
   pub room : at + longest_outcome ≤ length out
 
-abbrev pub OutcomeWritten : List ℕ → ℕ → List ℕ → List ℕ → ℕ → ℕ → Type 0
-OutcomeWritten s n out out' at r = (answer : Final Value) → Answers s n answer → Wrote out out' at (outcome_text answer) r
+abbrev pub OutcomeWritten : List ℕ → Option Refusal → List ℕ → List ℕ → ℕ → ℕ → Type 0
+OutcomeWritten s o out out' at r = (answer : Final Value) → Answers s o answer → Wrote out out' at (outcome_text answer) r
 
 -- A line is asked for: a list of at most 64 entries, an answer, and room for the longest line.
-pub record LineRoom (list : List ℕ) (n : ℕ) (s out : List ℕ) (at : ℕ) : Type 0 where
+pub record LineRoom (list : List ℕ) (o : Option Refusal) (s out : List ℕ) (at : ℕ) : Type 0 where
   pub few : length list ≤ most_choices
-  pub answered : Answered s n
+  pub answered : Answered s o
   pub room : at + longest_line ≤ length out
 
-pub record LineWritten (list : List ℕ) (n : ℕ) (s out out' : List ℕ) (at r : ℕ) : Type 0 where
-  pub right : (answer : Final Value) → Answers s n answer → Wrote out out' at (line list answer) r
+pub record LineWritten (list : List ℕ) (o : Option Refusal) (s out out' : List ℕ) (at r : ℕ) : Type 0 where
+  pub right : (answer : Final Value) → Answers s o answer → Wrote out out' at (line list answer) r
   pub within : r ≤ at + longest_line

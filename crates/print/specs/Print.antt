@@ -2,8 +2,8 @@
 -- (`all_lists`), and over what evaluating under each answers (`runs`).
 use Rattle.std.specs.Prelude.{cond, List, [], ◌∷◌, ◌++◌, ℕ, ltb, length, take}
 use Rattle.choices.specs.Paths.{all_lists}
-use Rattle.tables.specs.declared.Checked.{Checked}
-use Rattle.tables.specs.declared.Checked.TheVariants.{Accepted, Refused}
+use Rattle.std.specs.Prelude.{Ok, Err}
+use Rattle.tables.specs.Faults.{Checked, number_of}
 use Rattle.tables.specs.Check.{check}
 use Rattle.meaning.specs.Service.{tree, runs}
 use Rattle.print.specs.Ascii.{ascii, newline, space}
@@ -43,8 +43,8 @@ walked table lists = lines table (take most_lines lists) ++ last_line (length li
 
 -- A refused table prints only that.
 abbrev pub printed : List ℕ → Checked → List ℕ
-printed table (Accepted count) = first_line count ++ walked table (all_lists (tree table))
-printed table (Refused number place) = refused_line number place
+printed table (Ok count) = first_line count ++ walked table (all_lists (tree table))
+printed table (Err e) = refused_line (number_of e.rule) e.place
 
 -- The print of a table.
 abbrev pub print_of : List ℕ → List ℕ

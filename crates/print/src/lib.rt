@@ -2,12 +2,16 @@
 #![tactic(auto)]
 
 ghost use Rattle.std.specs.Prelude.{◌≡◌, ◌∷◌, [], ◌++◌, ◌+◌, ◌≤◌, ◌<◌, length};
+ghost use Rattle.prelude.specs.Refusals.{number_of};
+ghost use Rattle.tables.specs.Faults.{number_of as rule_number};
 ghost use Rattle.print.specs.Ascii.{newline};
 ghost use Rattle.print.specs.Text.{decimal, integer_text, truth_text, quote_text, refusal_word, list_text};
 ghost use Rattle.print.specs.Print.{first_line, end_line, cut_line, refused_line};
 ghost use Rattle.print.specs.Contract.{Room, Wrote, short_line, ValueRoom, ValueWritten, separator_text, following, ItemsRoom, ItemsWritten, Opened, Closed, OutcomeRoom, OutcomeWritten, LineRoom, LineWritten};
 
 use choices::list::Walk;
+use prelude::Refusal;
+use tables::Fault;
 use values::Value;
 
 // The longest line of a list: 64 entries of up to three digits, each with a comma or a space after it; `=` and a value's text, which has 3 bytes less
@@ -27,68 +31,6 @@ const SPACE: u8 = b' ';
 // A list without entries.
 const NO_ENTRIES: u8 = b'-';
 
-// A word of at most 10 letters, and their number.
-#[derive(Clone, Copy)]
-struct Word {
-    letters: [u8; 10],
-    len: u8,
-}
-
-// The least refusal that has a word.
-const FIRST_WORD: usize = 20;
-
-// The words of the refusals 20 to 31.
-const WORDS: [Word; 12] = [
-    Word {
-        letters: *b"kind______",
-        len: 4,
-    },
-    Word {
-        letters: *b"range_____",
-        len: 5,
-    },
-    Word {
-        letters: *b"zero______",
-        len: 4,
-    },
-    Word {
-        letters: *b"no-match__",
-        len: 8,
-    },
-    Word {
-        letters: *b"no-binding",
-        len: 10,
-    },
-    Word {
-        letters: *b"not-unique",
-        len: 10,
-    },
-    Word {
-        letters: *b"absent____",
-        len: 6,
-    },
-    Word {
-        letters: *b"clash_____",
-        len: 5,
-    },
-    Word {
-        letters: *b"large_____",
-        len: 5,
-    },
-    Word {
-        letters: *b"split_____",
-        len: 5,
-    },
-    Word {
-        letters: *b"bindings__",
-        len: 8,
-    },
-    Word {
-        letters: *b"choices___",
-        len: 7,
-    },
-];
-
 // ---- bytes and numbers
 
 // Writes bytes.
@@ -96,12 +38,9 @@ pub fn put_bytes(bytes: &[u8], out: &mut [u8], at: usize) -> usize
     requires { Room out.old at bytes.now }
     ensures { Wrote out.old out.new at bytes.now result }
 {
-    let mut i = 0;
-    while i < bytes.len() {
-        out[at + i] = bytes[i];
-        i += 1;
-    }
-    at + i
+    let end = at + bytes.len();
+    out[at..end].copy_from_slice(bytes);
+    end
 }
 
 // Writes a number in decimal.
@@ -182,8 +121,7 @@ fn following(is_map: bool, separator: Separator) -> Separator
         return Separator::Comma;
     }
     match separator {
-        Separator::Nothing => Separator::Arrow,
-        Separator::Comma => Separator::Arrow,
+        Separator::Nothing | Separator::Comma => Separator::Arrow,
         Separator::Arrow => Separator::Comma,
     }
 }
@@ -287,50 +225,67 @@ pub fn put_list(list: &[u8], out: &mut [u8], at: usize) -> usize
         out[at] = NO_ENTRIES;
         return at + 1;
     }
-    let mut end = put_number(list[0] as usize, out, at);
-    let mut i = 1;
-    while i < list.len() {
+    let mut end = put_number(usize::from(list[0]), out, at);
+    for i in 1..list.len() {
         out[end] = b',';
-        end = put_number(list[i] as usize, out, end + 1);
-        i += 1;
+        end = put_number(usize::from(list[i]), out, end + 1);
     }
     end
 }
 
-// Writes the word of a refusal.
-pub fn put_word(n: usize, out: &mut [u8], at: usize) -> usize
-    requires { (20 ≤ n) × (n ≤ 31) × Room out.old at (refusal_word n) }
-    ensures { Wrote out.old out.new at (refusal_word n) result }
+// The word of a refusal. No complete list comes to the last three, which have none.
+#[tactic(auto, unfolding(crate::specs::Text::refusal_word))]
+fn word(refusal: Refusal) -> &'static [u8]
+    ensures { result.now ≡ refusal_word (number_of refusal) }
 {
-    let word = WORDS[n - FIRST_WORD];
-    let letters = word.letters;
-    let len = word.len as usize;
-    put_bytes(&letters[..len], out, at)
+    match refusal {
+        Refusal::WrongKind => b"kind",
+        Refusal::OutOfRange => b"range",
+        Refusal::ByZero => b"zero",
+        Refusal::NoMatch => b"no-match",
+        Refusal::NoBinding => b"no-binding",
+        Refusal::NotUnique => b"not-unique",
+        Refusal::NotThere => b"absent",
+        Refusal::Clash => b"clash",
+        Refusal::TooLarge => b"large",
+        Refusal::TooLargeToSplit => b"split",
+        Refusal::TooManyBindings => b"bindings",
+        Refusal::TooManyChoices => b"choices",
+        Refusal::ListTooShort | Refusal::EntryTooHigh | Refusal::EntriesLeft => b"",
+    }
 }
 
-// Writes what evaluating answered: number 0 and the value at the start of the scratch, or a refusal's number.
-pub fn put_outcome(number: usize, s: &[u8], out: &mut [u8], at: usize) -> usize
-    requires { OutcomeRoom s.now number out.old at }
-    ensures { OutcomeWritten s.now number out.old out.new at result }
+// Writes the word of a refusal.
+pub fn put_word(refusal: Refusal, out: &mut [u8], at: usize) -> usize
+    requires { Room out.old at (refusal_word (number_of refusal)) }
+    ensures { Wrote out.old out.new at (refusal_word (number_of refusal)) result }
 {
-    if number == 0 {
+    put_bytes(word(refusal), out, at)
+}
+
+// Writes what evaluating answered: a refusal, or the value at the start of the scratch.
+pub fn put_outcome(refusal: Option<Refusal>, s: &[u8], out: &mut [u8], at: usize) -> usize
+    requires { OutcomeRoom s.now refusal out.old at }
+    ensures { OutcomeWritten s.now refusal out.old out.new at result }
+{
+    let Some(refusal) = refusal else {
         out[at] = b'=';
         return put_value(s, 0, out, at + 1);
-    }
+    };
     out[at] = b'!';
-    let end = put_number(number, out, at + 1);
+    let end = put_number(refusal.number(), out, at + 1);
     out[end] = SPACE;
-    put_word(number, out, end + 1)
+    put_word(refusal, out, end + 1)
 }
 
 // Writes the line of a list.
-pub fn put_line(list: &[u8], number: usize, s: &[u8], out: &mut [u8], at: usize) -> usize
-    requires { LineRoom list.now number s.now out.old at }
-    ensures { LineWritten list.now number s.now out.old out.new at result }
+pub fn put_line(list: &[u8], refusal: Option<Refusal>, s: &[u8], out: &mut [u8], at: usize) -> usize
+    requires { LineRoom list.now refusal s.now out.old at }
+    ensures { LineWritten list.now refusal s.now out.old out.new at result }
 {
     let end = put_list(list, out, at);
     out[end] = SPACE;
-    let last = put_outcome(number, s, out, end + 1);
+    let last = put_outcome(refusal, s, out, end + 1);
     out[last] = NEWLINE;
     last + 1
 }
@@ -375,12 +330,12 @@ pub fn put_cut(out: &mut [u8], at: usize) -> usize
 }
 
 // Writes the print of a refused table: `refused`, number and place, parted by single spaces.
-pub fn put_refused(number: usize, place: usize, out: &mut [u8], at: usize) -> usize
+pub fn put_refused(fault: Fault, out: &mut [u8], at: usize) -> usize
     requires { at + short_line ≤ length out.old }
-    ensures { Wrote out.old out.new at (refused_line number place) result }
+    ensures { Wrote out.old out.new at (refused_line (rule_number fault.rule) fault.place) result }
 {
     let start = put_bytes(b"refused ", out, at);
-    let end = put_number(number, out, start);
+    let end = put_number(fault.rule.number(), out, start);
     out[end] = SPACE;
-    put_count(place, out, end + 1)
+    put_count(fault.place, out, end + 1)
 }

@@ -1,13 +1,17 @@
 -- Cutting a table: what the tests of one record say, and what a turn of the loop keeps.
 use mathlib.Core.Path.{◌≡◌, refl, sym, ap, ◌∙◌}
-use mathlib.Core.Bool.{true, false}
+use mathlib.Core.Bool.{Bool, true, false}
 use mathlib.Core.List.{List, [], ◌∷◌}
 use Prim.Native.Nat.{ℕ, zero, suc, ◌+◌, ◌*◌, ◌-◌, ◌≤◌, ◌<◌}
 use native.Mathlib.Omega.{arith}
 use borrow.Author.Tests.{lt-ltb, le-ltb, ne_eqb}
 use lib.ListN.{length, get_or, take, drop, set, length-drop, length-set}
 use lib.Seq.{take_all, get_or-set_same, get_or-set_other, get_or-drop, drop-drop, drop-length}
+use Rattle.std.specs.Prelude.{Ok}
+use Rattle.std.specs.Bool.{then_some}
 use Rattle.integers.specs.Bytes.{word}
+use Rattle.tables.specs.declared.Rule.TheVariants.{UnfitRecord}
+use Rattle.tables.specs.Faults.{faulty}
 use Rattle.tables.specs.Record.{Record, is_fit}
 use Rattle.tables.specs.Table.{first_record, Next, fault, one, next, Cut, cut_by, cut, no_record, on_next}
 use Rattle.tables.specs.Check.{most_records}
@@ -15,16 +19,13 @@ use Rattle.prelude.proofs.Truth.{by_lower}
 use Rattle.tables.specs.Accepted.{records}
 use Rattle.tables.proofs.Laws.Accepted.{fit_kind, fit_most}
 use Rattle.tables.proofs.Laws.Cutting.{IsNext, next-is}
-use Rattle.tables.specs.Reading.{Stands, EntryOf, EntriesOf, Measured, Packs, CutOut}
+use Rattle.tables.specs.Reading.{Stands, EntryOf, EntriesOf, Long, Measured, Packs, CutOut}
 use Rattle.tables.proofs.Lengths.{fields_few}
 use Rattle.tables.proofs.Fit.{plus_zero, plus_four, fields_long, field_at}
 
 -- ---- one record
 
 module _ (bytes : List ℕ) (some : 0 < length bytes) where
-  pub bad : next bytes ≡ fault → Measured bytes 0
-  bad e = record { bad = λ z. e; good = λ z. absurd (omega arith); long = λ z. absurd (omega arith) }
-
   pub next_few : length bytes < 4 → next bytes ≡ fault
   unfolding next
   next_few h = rw (ne_eqb (length bytes) 0 (omega arith), lt-ltb (length bytes) 4 h)
@@ -47,29 +48,36 @@ module _ (bytes : List ℕ) (some : 0 < length bytes) where
   next_one h l m e =
       rw (ne_eqb (length bytes) 0 (omega arith), le-ltb (length bytes) 4 h, le-ltb (word bytes 0) 4 l, le-ltb (length bytes) (word bytes 0) m, e)
 
-  pub good : (n : ℕ) → n ≡ word bytes 0 → 4 ≤ length bytes → 4 ≤ n → n ≤ length bytes → is_fit (first_record bytes) ≡ true → Measured bytes n
+  pub good : (n : ℕ) → n ≡ word bytes 0 → 4 ≤ length bytes → 4 ≤ n → n ≤ length bytes → is_fit (first_record bytes) ≡ true → Long bytes n
   good n is h l m e =
       record {
-        bad = λ z. absurd (omega arith);
-        good = λ z. next_one h (omega arith) (omega arith) e ∙ ap (λ (k : ℕ). one (first_record bytes) (drop k bytes)) (sym is);
-        long = λ z. is;
+        good = next_one h (omega arith) (omega arith) e ∙ ap (λ (k : ℕ). one (first_record bytes) (drop k bytes)) (sym is);
+        is = is;
       }
+
+-- A length that is answered where a test holds.
+pub tested : (bytes : List ℕ) (b : Bool) (n : ℕ) → (b ≡ false → next bytes ≡ fault) → (b ≡ true → Long bytes n) → Measured bytes (then_some b n)
+tested bytes true n f t = t refl
+tested bytes false n f t = f refl
 
 -- A part from a place to the end is what is left there.
 pub part-rest : (s : List ℕ) (at : ℕ) → take (length s - at) (drop at s) ≡ drop at s
 part-rest s at = take_all (length s - at) (drop at s) (omega (arith, length-drop at s))
 
-pub measured : (s : List ℕ) (at n : ℕ) → Measured (take (length s - at) (drop at s)) n → Measured (drop at s) n
+pub measured : (s : List ℕ) (at n : ℕ) → Long (take (length s - at) (drop at s)) n → Long (drop at s) n
 measured s at n m = rw part-rest at m
 
+pub unmeasured : (s : List ℕ) (at : ℕ) → next (take (length s - at) (drop at s)) ≡ fault → next (drop at s) ≡ fault
+unmeasured s at m = rw part-rest at m
+
 -- A record lies within what is left.
-pub measured_within : (s : List ℕ) (at n : ℕ) → Measured (drop at s) n → 0 < n → n ≤ length s - at
-measured_within s at n m h =
-    omega (arith, (next-is (drop at s) (first_record (drop at s)) (drop n (drop at s)) (m.good h)).whole, m.long h, length-drop at s)
+pub measured_within : (s : List ℕ) (at n : ℕ) → Long (drop at s) n → n ≤ length s - at
+measured_within s at n m =
+    omega (arith, (next-is (drop at s) (first_record (drop at s)) (drop n (drop at s)) m.good).whole, m.is, length-drop at s)
 
 -- It has a heading.
-pub next_long : (s : List ℕ) (at n : ℕ) → Measured (drop at s) n → 0 < n → 4 ≤ n
-next_long s at n m h = omega (arith, (next-is (drop at s) (first_record (drop at s)) (drop n (drop at s)) (m.good h)).long, m.long h)
+pub next_long : (s : List ℕ) (at n : ℕ) → Long (drop at s) n → 4 ≤ n
+next_long s at n m = omega (arith, (next-is (drop at s) (first_record (drop at s)) (drop n (drop at s)) m.good).long, m.is)
 
 -- ---- where a record stands
 
@@ -169,7 +177,7 @@ cut_nothing (suc b) = refl
 
 module _ {before : List ℕ} (table index : List ℕ) (at count : ℕ) (t : Turn table before index at count) where
   -- Nothing is left.
-  pub cutting_end : length table ≤ at → CutOut table before index (record { count = count; whole = true })
+  pub cutting_end : length table ≤ at → CutOut table before index (Ok count)
   cutting_end h =
       let all : at ≡ length table = omega (arith, t.within) in
       let none : drop at table ≡ [] = rw all (drop-length table) in
@@ -177,8 +185,7 @@ module _ {before : List ℕ} (table index : List ℕ) (at count : ℕ) (t : Turn
       let over : drop count (records table) ≡ [] = sym t.left ∙ ap (λ (c : Cut). c.records) out in
       let last : count ≡ length (records table) = omega (arith, t.fits, length-drop count (records table), ap length over) in
       record {
-        count = last;
-        whole = sym (ap (λ (c : Cut). c.whole) out) ∙ t.same;
+        answer = rw (sym t.same ∙ ap (λ (c : Cut). c.whole) out) (ap Ok last);
         entries = λ r k l. t.entries r (omega arith) l;
         rest = λ r k. t.rest r (omega arith);
       }
@@ -193,15 +200,14 @@ module _ {before : List ℕ} (table index : List ℕ) (at count : ℕ) (t : Turn
     unrolled = ap (λ (b : ℕ). cut_by b (drop at table)) room
 
     -- A fault is next.
-    pub turn_bad : next (drop at table) ≡ fault → CutOut table before index (record { count = count; whole = false })
+    pub turn_bad : next (drop at table) ≡ fault → CutOut table before index (faulty UnfitRecord count)
     turn_bad e =
         let out : cut_by (length table - count) (drop at table) ≡ record { records = []; whole = false } =
         unrolled ∙ ap (λ (n : Next). on_next n (λ rest. cut_by (length table - (count + 1)) rest)) e in
         let over : drop count (records table) ≡ [] = sym t.left ∙ ap (λ (c : Cut). c.records) out in
         let last : count ≡ length (records table) = omega (arith, t.fits, length-drop count (records table), ap length over) in
         record {
-          count = last;
-          whole = sym (ap (λ (c : Cut). c.whole) out) ∙ t.same;
+          answer = rw (sym t.same ∙ ap (λ (c : Cut). c.whole) out) (ap (faulty UnfitRecord) last);
           entries = λ r k l. t.entries r (omega arith) l;
           rest = λ r k. t.rest r (omega arith);
         }

@@ -13,7 +13,7 @@ use Rattle.tables.specs.Check.{most_records}
 use Rattle.tables.specs.Shapes.{first_of, roles_of}
 use Rattle.tables.specs.Accepted.{records}
 use Rattle.tables.proofs.Laws.Accepted.{fit_records, fit_kind, fit_least, fit_most, named_count, operand_field}
-use Rattle.tables.specs.Reading.{Stands, place_in, second_in, EntryOf, Here}
+use Rattle.tables.specs.Reading.{Stands, place_in, second_in, EntryOf, Indexed, Here}
 use Rattle.tables.proofs.Lengths.{fields_few}
 use Rattle.tables.proofs.Fit.{plus_four}
 use Rattle.tables.proofs.Cutting.{part-rest}
@@ -28,12 +28,26 @@ field_byte s at place i e = part_at s at i ∙ ap (λ (a : ℕ). get_or s (a + i
 pub rest_long : (s : List ℕ) (at : ℕ) → length (take (length s - at) (drop at s)) ≡ length s - at
 rest_long s at = rw (part-rest s at) (length-drop at s)
 
-module _ (table index : List ℕ) (r : ℕ) (h : Here table index r) where
+-- What holds of a record, wherever it stands.
+module _ (table : List ℕ) (r : ℕ) (within : Here table r) where
   pub fit : is_fit (record_at (records table) r) ≡ true
-  fit = fit_records table r h.within
+  fit = fit_records table r within
+
+  pub kind_few : kind_at (records table) r ≤ last_kind
+  kind_few = fit_kind (record_at (records table) r) fit
+
+  pub count_few : length (named (record_at (records table) r)) ≤ 8
+  count_few = omega (arith, named_count (record_at (records table) r) fit, fit_most (record_at (records table) r) fit, fields_few (kind_at (records table) r) kind_few)
+
+  pub roles_more : length (named (record_at (records table) r)) ≤ length (roles_of (kind_at (records table) r))
+  roles_more = omega (arith, named_count (record_at (records table) r) fit, fit_most (record_at (records table) r) fit)
+
+module _ (table index : List ℕ) (r : ℕ) (indexed : Indexed table index) (within : Here table r) where
+  fits : is_fit (record_at (records table) r) ≡ true
+  fits = fit table r within
 
   pub entry_here : EntryOf table (get_or index r 0) (record_at (records table) r)
-  entry_here = h.indexed.entry r h.within
+  entry_here = indexed.entry r within
 
   pub stands : Stands table (place_in (get_or index r 0)) (record_at (records table) r)
   stands = entry_here.stands
@@ -43,27 +57,18 @@ module _ (table index : List ℕ) (r : ℕ) (h : Here table index r) where
   entry_read e is = rw is entry_here
 
   pub in_index : r < most_records
-  in_index = omega (arith, h.indexed.few, h.within)
+  in_index = omega (arith, indexed.few, within)
 
   pub four_there : place_in (get_or index r 0) + 4 ≤ length table
   four_there = omega (arith, stands.fits)
 
-  pub kind_few : kind_at (records table) r ≤ last_kind
-  kind_few = fit_kind (record_at (records table) r) fit
-
   -- The length, and the number of operands.
   pub count-is : get_or table (place_in (get_or index r 0)) 0 ≡ first_of (kind_at (records table) r) + length (named (record_at (records table) r))
-  count-is = omega (arith, stands.long, named_count (record_at (records table) r) fit, fit_least (record_at (records table) r) fit)
-
-  pub stand_count_few : length (named (record_at (records table) r)) ≤ 8
-  stand_count_few = omega (arith, named_count (record_at (records table) r) fit, fit_most (record_at (records table) r) fit, fields_few (kind_at (records table) r) kind_few)
-
-  pub roles_more : length (named (record_at (records table) r)) ≤ length (roles_of (kind_at (records table) r))
-  roles_more = omega (arith, named_count (record_at (records table) r) fit, fit_most (record_at (records table) r) fit)
+  count-is = omega (arith, stands.long, named_count (record_at (records table) r) fits, fit_least (record_at (records table) r) fits)
 
   module _ (i : ℕ) (has : i < length (named (record_at (records table) r))) where
     in_fields : size (head_of (record_at (records table) r)) + i < length (record_at (records table) r).fields
-    in_fields = omega (arith, named_count (record_at (records table) r) fit)
+    in_fields = omega (arith, named_count (record_at (records table) r) fits)
 
     pub operand_within : place_in (get_or index r 0) + (first_of (kind_at (records table) r) + i) < length table
     operand_within = omega (arith, stands.fits, in_fields)

@@ -1,7 +1,7 @@
 -- What holds of every accepted table, by the tests of the check: what crates that read accepted tables cite. `accepted_fine` (Laws/Accepted) proves it, and what follows for its records.
 -- What the check accepts and refuses, exactly and by relations, is `CheckIsExact` (Rules).
 use Rattle.std.specs.Prelude.{◌≡◌, true, false, List, ℕ, ◌<◌, ◌≤◌, length}
-use Rattle.tables.specs.declared.Checked.TheVariants.{Accepted}
+use Rattle.std.specs.Prelude.{Ok}
 use Rattle.tables.specs.Record.{Record, is_fit}
 use Rattle.tables.specs.Table.{cut, record_at}
 use Rattle.tables.specs.Check.{most_records, fault6, fault7, fault8, fault9, check}
@@ -22,4 +22,4 @@ pub record Fine (rs : List Record) : Type 0 where
 
 -- What the check accepts breaks no rule, and the answer is the number of its records. (One way only; both ways: `CheckIsExact`.)
 abbrev pub AcceptedIsFine : Type 0
-AcceptedIsFine = (table : List ℕ) (n : ℕ) → check table ≡ Accepted n → Fine (records table) × (n ≡ length (records table))
+AcceptedIsFine = (table : List ℕ) (n : ℕ) → check table ≡ Ok n → Fine (records table) × (n ≡ length (records table))

@@ -1,9 +1,10 @@
 -- Document 01, "From the input": rules 3 to 9, and the check of a table.
-use Rattle.std.specs.Prelude.{◌≡◌, Bool, false, not, ◌&&◌, ◌||◌, cond, List, [], ◌∷◌, ◌++◌, ℕ, suc, ◌<◌, eqb, ltb, length, take}
+use Rattle.std.specs.Prelude.{◌≡◌, Bool, false, not, ◌&&◌, ◌||◌, cond, List, [], ◌∷◌, ◌++◌, ℕ, suc, ◌<◌, eqb, ltb, length, take, Ok}
 use Rattle.tables.specs.declared.Role.{Role}
 use Rattle.tables.specs.declared.Role.TheVariants.{Plain, Condition, Body, Pattern, Name}
-use Rattle.tables.specs.declared.Checked.{Checked}
-use Rattle.tables.specs.declared.Checked.TheVariants.{Accepted, Refused}
+use Rattle.tables.specs.declared.Rule.{Rule as RuleName}
+use Rattle.tables.specs.declared.Rule.TheVariants.{WrongSize, UnfitRecord, TooManyRecords, WrongNaming, WrongBinding, ChoiceInCondition, TooHigh}
+use Rattle.tables.specs.Faults.{Checked, faulty}
 pub use Rattle.tables.specs.Limits.{most_bytes, most_records, most_height}
 use Rattle.tables.specs.Record.{Record, is_expression, is_pattern, named, operand, role_at, name_of}
 use Rattle.tables.specs.Table.{Cut, cut, record_at, kind_at}
@@ -70,34 +71,34 @@ fault9 rs r = ltb most_height (height rs r)
 
 -- ---- the check
 
--- A rule: its number, and the test of a record in a table.
+-- A rule: its name, and the test of a record in a table.
 pub record Rule : Type 0 where
-  pub number : ℕ
+  pub name : RuleName
   pub fault : List Record → ℕ → Bool
 
-abbrev pub rule : ℕ → (List Record → ℕ → Bool) → Rule
-rule n f = record { number = n; fault = f }
+abbrev pub rule : RuleName → (List Record → ℕ → Bool) → Rule
+rule n f = record { name = n; fault = f }
 
 -- In this order, each over the whole table before the next; the place is the lowest record at fault.
 abbrev pub judge : List Rule → List Record → Checked
-judge [] rs = Accepted (length rs)
+judge [] rs = Ok (length rs)
 judge (u ∷ us) rs =
     let place = lowest (u.fault rs) (length rs) in
     let later = judge us rs in
-    cond (ltb place (length rs)) (Refused u.number place) later
+    cond (ltb place (length rs)) (faulty u.name place) later
 
 unfoldable pub judged : List Record → Checked
-judged rs = judge (rule 6 fault6 ∷ rule 7 fault7 ∷ rule 8 fault8 ∷ rule 9 fault9 ∷ []) rs
+judged rs = judge (rule WrongNaming fault6 ∷ rule WrongBinding fault7 ∷ rule ChoiceInCondition fault8 ∷ rule TooHigh fault9 ∷ []) rs
 
 -- Rules 4 and 5: a fault in cutting, at the record that cannot be cut; over 200 records.
 unfoldable pub judged_cut : Cut → Checked
 judged_cut c =
     let later = judged c.records in
-    let counted = cond (ltb most_records (length c.records)) (Refused 5 most_records) later in
-    cond (not c.whole) (Refused 4 (length c.records)) counted
+    let counted = cond (ltb most_records (length c.records)) (faulty TooManyRecords most_records) later in
+    cond (not c.whole) (faulty UnfitRecord (length c.records)) counted
 
 -- Rule 3: table empty or over 2,400 bytes.
 unfoldable pub check : List ℕ → Checked
 check table =
     let later = judged_cut (cut table) in
-    cond (eqb (length table) 0 || ltb most_bytes (length table)) (Refused 3 0) later
+    cond (eqb (length table) 0 || ltb most_bytes (length table)) (faulty WrongSize 0) later

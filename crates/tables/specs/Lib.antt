@@ -4,6 +4,7 @@ pub mod Record
 pub mod Table
 pub mod Sheet
 pub mod Check
+pub mod Faults
 pub mod Accepted
 pub mod Rules
 pub mod Shapes

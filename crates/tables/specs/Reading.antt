@@ -1,11 +1,12 @@
 -- Where the records of a table stand in its bytes, and how an index finds them.
-use Rattle.std.specs.Prelude.{◌≡◌, List, ℕ, ◌+◌, ◌/◌, ◌%◌, ◌≤◌, ◌<◌, length, get_or, drop}
+use Rattle.std.specs.Prelude.{◌≡◌, cond, List, ℕ, ◌+◌, ◌/◌, ◌%◌, ◌≤◌, ◌<◌, length, get_or, drop, Option, Some, None, Ok}
 use Rattle.integers.specs.Bytes.{word}
 use Rattle.tables.specs.Record.{Record, named}
-use Rattle.tables.specs.Table.{fault, one, next, first_record, record_at, cut}
+use Rattle.tables.specs.Table.{fault, one, next, first_record, record_at, Cut, cut}
 use Rattle.tables.specs.Check.{most_records}
 use Rattle.tables.specs.Accepted.{records}
-use Rattle.tables.specs.declared.reading.Cutting.{Cutting}
+use Rattle.tables.specs.declared.Rule.TheVariants.{UnfitRecord}
+use Rattle.tables.specs.Faults.{Checked, faulty}
 
 -- The record x stands at a place of the table: length, kind, then one-byte fields. (Length and kind are below 256.)
 pub record Stands (table : List ℕ) (at : ℕ) (x : Record) : Type 0 where
@@ -40,25 +41,27 @@ pub record Indexed (table index : List ℕ) : Type 0 where
   pub few : length (records table) ≤ most_records
   pub entry : (r : ℕ) → r < length (records table) → EntryOf table (get_or index r 0) (record_at (records table) r)
 
--- A record of a table with an index.
-pub record Here (table index : List ℕ) (r : ℕ) : Type 0 where
-  pub indexed : Indexed table index
-  pub within : r < length (records table)
+-- A record of a table, one that has a field i, and one that has an operand i.
+abbrev pub Here : List ℕ → ℕ → Type 0
+Here table r = r < length (records table)
 
--- Such a record that has a field i, and one that has an operand i.
-pub record HasField (table index : List ℕ) (r i : ℕ) : Type 0 where
-  pub here : Here table index r
+pub record HasField (table : List ℕ) (r i : ℕ) : Type 0 where
+  pub here : Here table r
   pub has : i < length (record_at (records table) r).fields
 
-pub record HasOperand (table index : List ℕ) (r i : ℕ) : Type 0 where
-  pub here : Here table index r
+pub record HasOperand (table : List ℕ) (r i : ℕ) : Type 0 where
+  pub here : Here table r
   pub has : i < length (named (record_at (records table) r))
 
--- The length of the record at the start of some bytes; 0 where rule 4 finds a fault.
-pub record Measured (bytes : List ℕ) (n : ℕ) : Type 0 where
-  pub bad : n ≡ 0 → next bytes ≡ fault
-  pub good : 0 < n → next bytes ≡ one (first_record bytes) (drop n bytes)
-  pub long : 0 < n → n ≡ word bytes 0
+-- The record at the start of some bytes has the length n.
+pub record Long (bytes : List ℕ) (n : ℕ) : Type 0 where
+  pub good : next bytes ≡ one (first_record bytes) (drop n bytes)
+  pub is : n ≡ word bytes 0
+
+-- The length of the record at the start of some bytes; none where rule 4 finds a fault.
+abbrev pub Measured : List ℕ → Option ℕ → Type 0
+Measured bytes None = next bytes ≡ fault
+Measured bytes (Some n) = Long bytes n
 
 -- The entry of a record of a length at the start of some bytes.
 pub record Packs (bytes : List ℕ) (at len e : ℕ) : Type 0 where
@@ -66,10 +69,12 @@ pub record Packs (bytes : List ℕ) (at len e : ℕ) : Type 0 where
   pub kind : kind_in e ≡ get_or bytes 2 0
   pub second : 5 < len → second_in e ≡ get_or bytes 5 0
 
--- What cutting a table finds: the number of records up to the first fault of rule 4, whether there is none, and an index of them. Behind their
--- entries the index is as it was before.
-pub record CutOut (table before index : List ℕ) (c : Cutting) : Type 0 where
-  pub count : c.count ≡ length (records table)
-  pub whole : c.whole ≡ (cut table).whole
+-- What is answered to a table that was cut: the number of records, or the first fault of rule 4, at the record behind them.
+abbrev pub counted : Cut → Checked
+counted c = cond c.whole (Ok (length c.records)) (faulty UnfitRecord (length c.records))
+
+-- What cutting a table finds: the answer, and an index of the records. Behind their entries the index is as it was before.
+pub record CutOut (table before index : List ℕ) (a : Checked) : Type 0 where
+  pub answer : a ≡ counted (cut table)
   pub entries : EntriesOf table index (length (records table))
   pub rest : (r : ℕ) → length (records table) ≤ r → get_or index r 0 ≡ get_or before r 0

@@ -1,11 +1,13 @@
 -- Document 01, "Table records" and "From the input": where a table breaks each of the rules 3 to 9, and what the check answers. Each rule is a relation in its
 -- words, over the bytes of a table or the list of its records. `check_exact` (proofs/Rules/Exact) proves that the check answers so.
-use Rattle.std.specs.Prelude.{◌≡◌, true, ◌⊎◌, ◌↔◌, List, [], ◌∷◌, ◌++◌, ℕ, zero, suc, ◌+◌, ◌*◌, ◌<◌, ◌≤◌, length, drop}
+use Rattle.std.specs.Prelude.{◌≡◌, true, ◌⊎◌, ◌↔◌, List, [], ◌∷◌, ◌++◌, ℕ, zero, suc, ◌+◌, ◌*◌, ◌<◌, ◌≤◌, length, drop, Ok}
 use Rattle.integers.specs.Bytes.{word}
 use Rattle.integers.specs.Whole.{InRange}
 use Rattle.tables.specs.declared.Role.{Role}
 use Rattle.tables.specs.declared.Role.TheVariants.{Plain, Condition, Body, Pattern, Name}
-use Rattle.tables.specs.declared.Checked.TheVariants.{Accepted, Refused}
+use Rattle.tables.specs.declared.Rule.{Rule as RuleName}
+use Rattle.tables.specs.declared.Rule.TheVariants.{WrongSize, UnfitRecord, TooManyRecords, WrongNaming, WrongBinding, ChoiceInCondition, TooHigh}
+use Rattle.tables.specs.Faults.{faulty}
 use Rattle.tables.specs.Limits.{most_bytes, most_records, most_height}
 use Rattle.tables.specs.Record.{Record, expression, pattern, Head, nothing, boolean, integer, quote, name, unary, binary, unknown, Shape, shape, size, head_of, field, name_of, operator, integer_of, quote_of, named, operand, role_at}
 use Rattle.tables.specs.Table.{first_record, record_at, kind_at}
@@ -201,24 +203,24 @@ pub record OfRecords (Fault : List Record → ℕ → Type 0) (table : List ℕ)
   pub is_record : p < length records
   pub fault : Fault records p
 
--- A rule: its number, and the records at which a table breaks it.
+-- A rule: its name, and the records at which a table breaks it.
 pub record Rule : Type 1 where
-  pub number : ℕ
+  pub name : RuleName
   pub BrokenAt : List ℕ → ℕ → Type 0
 
-abbrev pub rule : ℕ → (List ℕ → ℕ → Type 0) → Rule
-rule number BrokenAt = record { number = number; BrokenAt = BrokenAt }
+abbrev pub rule : RuleName → (List ℕ → ℕ → Type 0) → Rule
+rule n BrokenAt = record { name = n; BrokenAt = BrokenAt }
 
 -- Tested in this order, each over the whole table before the next.
 abbrev pub rules : List Rule
 rules =
-    rule 3 Broken3
-    ∷ rule 4 Broken4
-    ∷ rule 5 Broken5
-    ∷ rule 6 (OfRecords Fault6)
-    ∷ rule 7 (OfRecords Fault7)
-    ∷ rule 8 (OfRecords Fault8)
-    ∷ rule 9 (OfRecords Fault9)
+    rule WrongSize Broken3
+    ∷ rule UnfitRecord Broken4
+    ∷ rule TooManyRecords Broken5
+    ∷ rule WrongNaming (OfRecords Fault6)
+    ∷ rule WrongBinding (OfRecords Fault7)
+    ∷ rule ChoiceInCondition (OfRecords Fault8)
+    ∷ rule TooHigh (OfRecords Fault9)
     ∷ []
 
 -- Some rules are broken nowhere.
@@ -226,13 +228,13 @@ abbrev pub Kept : List Rule → List ℕ → Type 0
 Kept [] table = Unit {0}
 Kept (u ∷ us) table = ((p : ℕ) → ¬ u.BrokenAt table p) × Kept us table
 
--- The rule of number n refuses the table at p: it is broken at p, at no record below p, and no earlier rule is broken anywhere.
-pub record Refuses (table : List ℕ) (n p : ℕ) : Type 1 where
+-- The rule n refuses the table at p: it is broken at p, at no record below p, and no earlier rule is broken anywhere.
+pub record Refuses (table : List ℕ) (n : RuleName) (p : ℕ) : Type 1 where
   pub earlier : List Rule
   pub broken : Rule
   pub later : List Rule
   pub in_order : rules ≡ earlier ++ broken ∷ later
-  pub number : broken.number ≡ n
+  pub name : broken.name ≡ n
   pub here : broken.BrokenAt table p
   pub lowest : (q : ℕ) → q < p → ¬ broken.BrokenAt table q
   pub kept : Kept earlier table
@@ -244,7 +246,7 @@ pub record Accepts (table : List ℕ) (k : ℕ) : Type 0 where
   pub are : RecordsOf table records
   pub number : k ≡ length records
 
--- A table is turned away, by a number and a record, exactly when a rule refuses it.
+-- A table is turned away, by a rule and a record, exactly when a rule refuses it.
 pub record CheckIsExact (table : List ℕ) : Type 1 where
-  pub refused : (n p : ℕ) → check table ≡ Refused n p ↔ Refuses table n p
-  pub accepted : (k : ℕ) → check table ≡ Accepted k ↔ Accepts table k
+  pub refused : (n : RuleName) (p : ℕ) → check table ≡ faulty n p ↔ Refuses table n p
+  pub accepted : (k : ℕ) → check table ≡ Ok k ↔ Accepts table k

@@ -111,21 +111,11 @@ const LOOSE: u64 = 0x760_0000_0000;
 // Bit k is set for each kind k that there is: 1 to 22, 32 to 43.
 const KNOWN: u64 = 0xfff_007f_fffe;
 
-// A byte as a number.
-pub fn wide(b: u8) -> usize
-    ensures { (result ≡ b) × (result < 256) }
-{
-    b as usize
-}
-
 // Whether a number is from one to another.
 pub fn is_between(low: usize, n: usize, high: usize) -> bool
     ensures { result ≡ (leb low n && leb n high) }
 {
-    if n < low {
-        return false;
-    }
-    n <= high
+    low <= n && n <= high
 }
 
 // ---- sorts
@@ -287,16 +277,12 @@ pub fn is_fit(lengths: &Lengths, part: &[u8], kind: usize, len: usize) -> bool
     requires head_read { (kind ≡ word part.now 2) × (len ≡ word part.now 0) × (4 ≤ len) × (len ≤ length part.now) }
     ensures { result ≡ is_fit (first_record part.now) }
 {
-    if kinds::LAST < kind {
+    if kinds::LAST < kind || !fits_kind(lengths, kind, len) {
         return false;
     }
-    let fit = fits_kind(lengths, kind, len);
-    if !fit {
-        return false;
+    if is_tested(kind) {
+        is_known(kind, usize::from(part[HEADING]))
+    } else {
+        is_kind(kind)
     }
-    let tested = is_tested(kind);
-    if !tested {
-        return is_kind(kind);
-    }
-    is_known(kind, wide(part[HEADING]))
 }

@@ -26,7 +26,7 @@ use Rattle.patterns.proofs.Laws.Matched.{bindings_exactly}
 use Rattle.patterns.proofs.Laws.Forming.{formed_bound}
 use Rattle.tables.specs.declared.Role.{Role}
 use Rattle.tables.specs.declared.Role.TheVariants.{Plain, Name}
-use Rattle.tables.specs.declared.Checked.TheVariants.{Accepted}
+use Rattle.std.specs.Prelude.{Ok}
 use Rattle.tables.specs.Record.{Record, shape, head_of, is_known, name_of, named as operands_of, role_at}
 use Rattle.tables.specs.Table.{no_record, record_at, kind_at}
 use Rattle.tables.specs.Check.{check, is_of_sort}
@@ -54,7 +54,7 @@ in_table table r k e h =
     by_lower r (length (records table)) (λ l. l)
     (λ l. let z : 0 ≡ k = ap (λ (q : Record). q.kind) (sym (get_or-eq_default (records table) no_record l)) ∙ e in absurd (omega arith))
 
-module _ (table : List ℕ) (n : ℕ) (ok : check table ≡ Accepted n) (r : ℕ) (ρ : State) where
+module _ (table : List ℕ) (n : ℕ) (ok : check table ≡ Ok n) (r : ℕ) (ρ : State) where
   abbrev rec : ℕ → State → Outcomes Value
   rec a σ = loose_meaning (sheet table) a σ
 

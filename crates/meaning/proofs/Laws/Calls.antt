@@ -7,7 +7,7 @@ use Rattle.choices.specs.Lists.{Complete, CountBefore}
 use Rattle.choices.specs.Paths.{first_list, next_list}
 use Rattle.choices.proofs.Cut.{complete_length}
 use Rattle.choices.proofs.Walk.{count_first, first_list_lem, next_list_lem, count_next, next_last}
-use Rattle.tables.specs.declared.Checked.TheVariants.{Accepted}
+use Rattle.std.specs.Prelude.{Ok}
 use Rattle.tables.specs.Check.{check}
 use Rattle.prelude.proofs.Truth.{by_lower}
 use Rattle.meaning.specs.State.{unbound}
@@ -81,7 +81,7 @@ module _ (table : List ℕ) (c : Call) (w : Walk) where
 
 -- ---- an accepted table
 
-module _ (table : List ℕ) (n : ℕ) (ok : check table ≡ Accepted n) where
+module _ (table : List ℕ) (n : ℕ) (ok : check table ≡ Ok n) where
   full : Full (tree table)
   full = (sure_meaning (sheet table) (last (sheet table)) unbound).full
 

@@ -13,7 +13,7 @@ use Rattle.operators.specs.Booleans.{and, or, implies}
 use Rattle.patterns.specs.Binding.{Binding}
 use Rattle.patterns.specs.Pattern.{loose as is_loose_at}
 use Rattle.tables.specs.declared.Role.TheVariants.{Plain, Condition}
-use Rattle.tables.specs.declared.Checked.TheVariants.{Accepted}
+use Rattle.std.specs.Prelude.{Ok}
 use Rattle.tables.specs.Record.{Record, shape, operator, named as operands_of, operand, role_at}
 use Rattle.tables.specs.Table.{no_record, record_at, kind_at}
 use Rattle.tables.specs.Sheet.{loose, pattern_of, is_condition, is_binder, in_condition}
@@ -109,7 +109,7 @@ node_tells : (q : Record) → Tells (node_of q) q q.kind
 unfolding node_of
 node_tells q = let e : 0 + q.kind ≡ q.kind = omega arith in subst (λ m. Tells (get_or nodes q.kind none q) q m) e (tells_at 0 q.kind nodes q each_tells)
 
-module _ (table : List ℕ) (n : ℕ) (ok : check table ≡ Accepted n) where
+module _ (table : List ℕ) (n : ℕ) (ok : check table ≡ Ok n) where
   abbrev rs : List Record
   rs = records table
 

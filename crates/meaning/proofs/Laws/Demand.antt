@@ -1,6 +1,6 @@
 -- Demand 3 holds of every accepted table.
 use Rattle.std.specs.Prelude.{◌≡◌, List, ℕ}
-use Rattle.tables.specs.declared.Checked.TheVariants.{Accepted}
+use Rattle.std.specs.Prelude.{Ok}
 use Rattle.tables.specs.Check.{check}
 use Rattle.meaning.specs.Demand.{Demand3}
 use Rattle.meaning.proofs.Laws.Calls.{refused, calls_held, calls_untouched, refusals, first_answers, step_from, calls_step}
@@ -8,7 +8,7 @@ use Rattle.meaning.proofs.Laws.Evaluating.{complete_number}
 use Rattle.meaning.proofs.Laws.Outcomes.{outcomes}
 use Rattle.meaning.proofs.Laws.NoBinding.{no_binding}
 
-pub demand3 : (table : List ℕ) (n : ℕ) → check table ≡ Accepted n → Demand3 table
+pub demand3 : (table : List ℕ) (n : ℕ) → check table ≡ Ok n → Demand3 table
 demand3 table n ok =
     record {
       held = calls_held table n ok;

@@ -8,7 +8,7 @@ use Rattle.choices.specs.Lists.{Ended, Complete, run_outcome}
 use Rattle.choices.proofs.Cut.{complete_length}
 use Rattle.choices.proofs.Walk.{final_of, complete_final, stopped_number, Settles, complete_whole}
 use Rattle.values.specs.Value.{Value, value_limit as largest}
-use Rattle.tables.specs.declared.Checked.TheVariants.{Accepted}
+use Rattle.std.specs.Prelude.{Ok}
 use Rattle.tables.specs.Check.{check}
 use Rattle.meaning.specs.State.{unbound}
 use Rattle.meaning.specs.Read.{sheet}
@@ -24,7 +24,7 @@ settles_number : {A : Type 0} (f : Final A) → CompleteNumber (final_number f) 
 settles_number (result a) h = tt
 settles_number (refuses n p k) h = ⊎_elim (λ e. omega arith) (λ b. omega (arith, b.1)) h
 
-module _ (table : List ℕ) (n : ℕ) (ok : check table ≡ Accepted n) (scratch buffer : List ℕ) (enough : scratch_bytes ≤ length scratch) (room : largest ≤ length buffer) where
+module _ (table : List ℕ) (n : ℕ) (ok : check table ≡ Ok n) (scratch buffer : List ℕ) (enough : scratch_bytes ≤ length scratch) (room : largest ≤ length buffer) where
   -- A complete list answers the outcome of its run.
   pub evaluating : (l : List ℕ) → Complete (tree table) l → evaluate_call table l scratch buffer ≡ after_evaluate (final_of (run_outcome (run (tree table) l))) scratch buffer
   evaluating l c =

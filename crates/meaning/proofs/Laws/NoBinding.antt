@@ -18,7 +18,7 @@ use Rattle.operators.specs.Answer.{as_boolean, as_set}
 use Rattle.patterns.specs.Binding.{Binding}
 use Rattle.patterns.specs.Pattern.{Pattern, list_of}
 use Rattle.patterns.specs.Binder.{Formed, bound, refused as unformed, formed}
-use Rattle.tables.specs.declared.Checked.TheVariants.{Accepted}
+use Rattle.std.specs.Prelude.{Ok}
 use Rattle.tables.specs.Check.{check}
 use Rattle.meaning.specs.Node.{let_be}
 use Rattle.meaning.specs.State.{State, unbound, under}
@@ -42,7 +42,7 @@ use Rattle.meaning.proofs.Laws.Evaluating.{evaluating}
 gives_leaf : (t : Tree Value) (v : Value) → t ≡ give v → Gives t (value v)
 gives_leaf t v e = subst (λ x. Gives x (value v)) (sym e) refl
 
-module _ (table : List ℕ) (n : ℕ) (ok : check table ≡ Accepted n) where
+module _ (table : List ℕ) (n : ℕ) (ok : check table ≡ Ok n) where
   down : Downward (sheet table)
   down = downward table n ok
 

@@ -1,10 +1,9 @@
 -- Every refusal of an operator has a number from 20 to 30, other than 24.
-use Rattle.std.specs.Prelude.{◌≡◌, Bool, true, false, cond, List, [], ◌∷◌, ℕ, zero, suc, ◌+◌, ◌≤◌, leb, ℤ, pos, get_or}
+use Rattle.std.specs.Prelude.{◌≡◌, Bool, true, false, cond, List, [], ◌∷◌, ℕ, zero, suc, ◌+◌, ◌≤◌, leb, ℤ, pos, negsuc, Ok, Err, get_or}
 use Rattle.std.proofs.Math.Option.{Option, none as absent, some}
 use Rattle.std.proofs.Common.{arith}
-use Rattle.integers.specs.declared.Number.{Number}
-use Rattle.integers.specs.declared.Number.TheVariants.{Is, OutOfRange, ByZero}
-use Rattle.integers.specs.Whole.{negation_of, absolute_of, sum_of, difference_of, product_of, quotient_of, remainder_of, modulus_of}
+use Rattle.prelude.specs.declared.Refusal.TheVariants.{OutOfRange}
+use Rattle.integers.specs.Whole.{in_range, ranged, divided}
 use Rattle.values.specs.Value.{Kind, set, sequence, map, tuple, Value, boolean, integer, quote, collection, Items, none, more, sizes, value_limit, count}
 use Rattle.values.specs.Items.{same, lookup, join, snoc, insert, enter}
 use Rattle.operators.specs.Answer.{Answer, is, refused, Built, built, stopped, needs, needs_both, found, fitting, closed, sized, as_boolean, as_integer, as_set, as_sequence, as_map}
@@ -64,10 +63,18 @@ if_closed k (stopped n) h = h
 if_sized : (k : Kind) (vs : Items) → Answered (sized k vs)
 if_sized k vs = if_closed k (fitting vs) (if_fitting vs)
 
-if_number : (n : Number) → Answered (answered n)
-if_number (Is z) = tt
-if_number OutOfRange = (omega arith, omega arith, λ e. omega arith)
-if_number ByZero = (omega arith, omega arith, λ e. omega arith)
+pick_number : (b : Bool) (z : ℤ) → Answered (answered (cond b (Ok z) (Err OutOfRange)))
+pick_number true z = tt
+pick_number false z = (omega arith, omega arith, λ e. omega arith)
+
+if_ranged : (z : ℤ) → Answered (answered (ranged z))
+unfolding ranged
+if_ranged z = pick_number (in_range z) z
+
+if_divided : (d z : ℤ) → Answered (answered (divided d z))
+if_divided (pos zero) z = (omega arith, omega arith, λ e. omega arith)
+if_divided (pos (suc n)) z = if_ranged z
+if_divided (negsuc n) z = if_ranged z
 
 if_counting : (z : ℤ) (n : ℕ) → Answered (consecutive z n)
 if_counting z n = if_sized set (up_from z n)
@@ -116,8 +123,8 @@ unfolding unary
 unary_operator_is n v = all-at unaries n v (
     (λ v. kind_number) &
     (λ v. if_needed (as_boolean v) _ (λ b. tt)) &
-    (λ v. if_needed (as_integer v) _ (λ a. if_number (negation_of a))) &
-    (λ v. if_needed (as_integer v) _ (λ a. if_number (absolute_of a))) &
+    (λ v. if_needed (as_integer v) _ (λ a. if_ranged _)) &
+    (λ v. if_needed (as_integer v) _ (λ a. if_ranged _)) &
     (λ v. if_needed (as_set v) _ (λ vs. tt)) &
     (λ v. if_needed (as_set v) _ (λ vs. if_picked (every_item (is_kind set) vs) (sized set (unite_all vs)) (refused 20) (if_sized set (unite_all vs)) kind_number)) &
     (λ v. if_needed (as_set v) _ (λ vs. if_picked (every_item (is_kind set) vs) (intersection_of vs) (refused 20) (if_intersected vs) kind_number)) &
@@ -140,12 +147,12 @@ binary_operator_is n v w = all_at₂ binaries n v w (
     (λ v w. if_both (as_boolean v) (as_boolean w) _ (λ a b. tt)) &
     (λ v w. tt) &
     (λ v w. tt) &
-    (λ v w. if_both (as_integer v) (as_integer w) _ (λ a b. if_number (sum_of a b))) &
-    (λ v w. if_both (as_integer v) (as_integer w) _ (λ a b. if_number (difference_of a b))) &
-    (λ v w. if_both (as_integer v) (as_integer w) _ (λ a b. if_number (product_of a b))) &
-    (λ v w. if_both (as_integer v) (as_integer w) _ (λ a b. if_number (quotient_of a b))) &
-    (λ v w. if_both (as_integer v) (as_integer w) _ (λ a b. if_number (remainder_of a b))) &
-    (λ v w. if_both (as_integer v) (as_integer w) _ (λ a b. if_number (modulus_of a b))) &
+    (λ v w. if_both (as_integer v) (as_integer w) _ (λ a b. if_ranged _)) &
+    (λ v w. if_both (as_integer v) (as_integer w) _ (λ a b. if_ranged _)) &
+    (λ v w. if_both (as_integer v) (as_integer w) _ (λ a b. if_ranged _)) &
+    (λ v w. if_both (as_integer v) (as_integer w) _ (λ a b. if_divided b _)) &
+    (λ v w. if_both (as_integer v) (as_integer w) _ (λ a b. if_divided b _)) &
+    (λ v w. if_both (as_integer v) (as_integer w) _ (λ a b. if_divided b _)) &
     (λ v w. if_both (as_integer v) (as_integer w) _ (λ a b. tt)) &
     (λ v w. if_both (as_integer v) (as_integer w) _ (λ a b. tt)) &
     (λ v w. if_both (as_integer v) (as_integer w) _ (λ a b. tt)) &

@@ -12,7 +12,7 @@ use Rattle.choices.proofs.Walk.{final_of}
 use Rattle.choices.proofs.Outcomes.{gives_reached}
 use Rattle.values.specs.Value.{Value, encode, WellFormed, value_limit as largest}
 use Rattle.values.proofs.Encoding.{value_of, value_back}
-use Rattle.tables.specs.declared.Checked.TheVariants.{Accepted}
+use Rattle.std.specs.Prelude.{Ok}
 use Rattle.tables.specs.Check.{check}
 use Rattle.meaning.specs.State.{unbound}
 use Rattle.meaning.specs.Loose.{loose_meaning}
@@ -92,7 +92,7 @@ module _ (scratch buffer : List ℕ) where
 
 -- ---- an accepted table
 
-module _ (table : List ℕ) (n : ℕ) (ok : check table ≡ Accepted n) where
+module _ (table : List ℕ) (n : ℕ) (ok : check table ≡ Ok n) where
   -- What the tree gives is an outcome of document 01.
   proper : (o : Outcome Value) → Gives (tree table) o → Proper o × ((m p : ℕ) → o ≡ refusal m p → m ≤ 30)
   proper (value v) g = (tree_well_formed table n ok v g, λ m p e. impossible cc)

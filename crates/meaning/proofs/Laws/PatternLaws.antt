@@ -10,7 +10,7 @@ use Rattle.patterns.specs.Pattern.{Pattern, any, each, halved, is_unordered, loo
 use Rattle.values.specs.Value.{Kind, set, sequence, map as mapping, tuple}
 use Rattle.patterns.specs.Pattern.{named_each}
 use Rattle.patterns.specs.Pattern.{holds_named as holds_at}
-use Rattle.tables.specs.declared.Checked.TheVariants.{Accepted}
+use Rattle.std.specs.Prelude.{Ok}
 use Rattle.tables.specs.Record.{Record, shape, is_pattern, is_fit, name_of, named as operands_of, operand}
 use Rattle.tables.specs.Table.{record_at, kind_at}
 use Rattle.tables.specs.Sheet.{some, is_name, holds_name, is_loose, loose, any_below}
@@ -185,7 +185,7 @@ module _ (x : ℕ) where
 
 -- ---- of an accepted table
 
-module _ (table : List ℕ) (n : ℕ) (ok : check table ≡ Accepted n) where
+module _ (table : List ℕ) (n : ℕ) (ok : check table ≡ Ok n) where
   -- THEOREM: a pattern record is read over what its parts are read as.
   pub pattern_is : (r : ℕ) → r < length (records table) → pattern_at (records table) r ≡ pattern_of (record_at (records table) r) (map (pattern_at (records table)) (operands_of (record_at (records table) r)))
   pattern_is r h = pattern_at_lem is_loose is_loose_at all_loose (records table) (accepted_fine table n ok).0 r h

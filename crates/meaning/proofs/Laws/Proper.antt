@@ -12,7 +12,7 @@ use Rattle.integers.specs.Whole.{InRange}
 use Rattle.values.specs.Value.{Kind, set, sequence, map, tuple}
 use Rattle.operators.specs.Booleans.{and, or, implies}
 use Rattle.tables.specs.declared.Role.TheVariants.{Plain}
-use Rattle.tables.specs.declared.Checked.TheVariants.{Accepted}
+use Rattle.std.specs.Prelude.{Ok}
 use Rattle.tables.specs.Record.{Record, shape, size, head_of, fits, named as operands_of, operator, operand, role_at, is_fit, is_known, integer_of, quote_of}
 use Rattle.tables.specs.Table.{no_record, record_at}
 use Rattle.tables.specs.Sheet.{is_covered}
@@ -233,7 +233,7 @@ module _ (rs : List Record) (fine : Fine rs) (P : ℕ → Type 0) (C : ℕ → �
 
 -- THEOREM: every record of an accepted table evaluates only lower ones, and its literals are proper. (So is what stands for a record that is
 -- not there.)
-pub proper : (table : List ℕ) (n : ℕ) → check table ≡ Accepted n → (r : ℕ) → Proper (λ a. a < r) (λ p a. a < r) ((sheet table).node r)
+pub proper : (table : List ℕ) (n : ℕ) → check table ≡ Ok n → (r : ℕ) → Proper (λ a. a < r) (λ p a. a < r) ((sheet table).node r)
 proper table n ok r =
     let fine = (accepted_fine table n ok).0 in
     let rs = records table in
@@ -241,5 +241,5 @@ proper table n ok r =
     (λ h. inside rs fine (λ a. a < r) (λ p a. a < r) r h (λ i k e. operand_lower rs fine.clear6 r i h k) (λ i k e. operand_lower rs fine.clear6 r i h k))
     (λ h. outside rs fine (λ a. a < r) (λ p a. a < r) r h)
 
-pub downward : (table : List ℕ) (n : ℕ) → check table ≡ Accepted n → Downward (sheet table)
+pub downward : (table : List ℕ) (n : ℕ) → check table ≡ Ok n → Downward (sheet table)
 downward table n ok r = let h = proper table n ok r in record { plain_ones = h.plain_ones; covered_ones = h.covered_ones }

@@ -12,8 +12,9 @@ use Rattle.choices.specs.Tree.{Tree, give, stop, choose, Run, gave, stopped, sho
 use Rattle.choices.specs.Paths.{next_list}
 use Rattle.values.specs.Value.{value_limit as largest}
 use Rattle.patterns.specs.Binder.{most_bindings}
-use Rattle.tables.specs.declared.Checked.{Checked}
-use Rattle.tables.specs.declared.Checked.TheVariants.{Accepted, Refused}
+use Rattle.std.specs.Prelude.{Ok, Err}
+use Rattle.tables.specs.Faults.{Checked, faulty, number_of}
+use Rattle.tables.specs.declared.Rule.TheVariants.{WrongSize, UnfitRecord, TooManyRecords, WrongNaming, WrongBinding, ChoiceInCondition, TooHigh}
 use Rattle.tables.specs.Record.{Record}
 use Rattle.tables.specs.Table.{Next, end, fault, one, next, Cut, cut_by, cut, on_next}
 use Rattle.tables.specs.Sheet.{lowest}
@@ -34,8 +35,8 @@ use Rattle.meaning.proofs.Laws.Services.{late_number}
 
 -- At most 200 records are counted. A rule's number is 3 to 9. Rule 4 can break at any of the 600 records that fit 2,400 bytes.
 abbrev pub SmallCheck : Checked → Type 0
-SmallCheck (Accepted n) = n ≤ 200
-SmallCheck (Refused n r) = (3 ≤ n) × (n ≤ 9) × (r < 600)
+SmallCheck (Ok n) = n ≤ 200
+SmallCheck (Err e) = (3 ≤ number_of e.rule) × (number_of e.rule ≤ 9) × (e.place < 600)
 
 small_cond : (b : Bool) (x y : Checked) → (b ≡ true → SmallCheck x) → (b ≡ false → SmallCheck y) → SmallCheck (cond b x y)
 small_cond true x y f g = f refl
@@ -67,19 +68,19 @@ cut_small (suc bound) bytes = go (next bytes) refl (λ rest. cut_small bound res
         omega (arith, f rest, is.long, is.whole, ap length is.then, length-drop (word bytes 0) bytes)
 
 module _ (rs : List Record) (few : length rs ≤ 200) where
-  small_rule : (u : Rule) (us : List Rule) → 3 ≤ u.number → u.number ≤ 9 → SmallCheck (judge us rs) → SmallCheck (judge (u ∷ us) rs)
+  small_rule : (u : Rule) (us : List Rule) → 3 ≤ number_of u.name → number_of u.name ≤ 9 → SmallCheck (judge us rs) → SmallCheck (judge (u ∷ us) rs)
   small_rule u us l h later =
-      small_cond (ltb (lowest (u.fault rs) (length rs)) (length rs)) (Refused u.number (lowest (u.fault rs) (length rs))) (judge us rs)
+      small_cond (ltb (lowest (u.fault rs) (length rs)) (length rs)) (faulty u.name (lowest (u.fault rs) (length rs))) (judge us rs)
       (λ e. (l, h, omega (arith, ltb-true (lowest (u.fault rs) (length rs)) (length rs) e)))
       (λ e. later)
 
   small_judged : SmallCheck (judged rs)
   unfolding judged
   small_judged =
-      small_rule (rule 6 fault6) (rule 7 fault7 ∷ rule 8 fault8 ∷ rule 9 fault9 ∷ []) (omega arith) (omega arith)
-      (small_rule (rule 7 fault7) (rule 8 fault8 ∷ rule 9 fault9 ∷ []) (omega arith) (omega arith)
-      (small_rule (rule 8 fault8) (rule 9 fault9 ∷ []) (omega arith) (omega arith)
-      (small_rule (rule 9 fault9) [] (omega arith) (omega arith) few)))
+      small_rule (rule WrongNaming fault6) (rule WrongBinding fault7 ∷ rule ChoiceInCondition fault8 ∷ rule TooHigh fault9 ∷ []) (omega arith) (omega arith)
+      (small_rule (rule WrongBinding fault7) (rule ChoiceInCondition fault8 ∷ rule TooHigh fault9 ∷ []) (omega arith) (omega arith)
+      (small_rule (rule ChoiceInCondition fault8) (rule TooHigh fault9 ∷ []) (omega arith) (omega arith)
+      (small_rule (rule TooHigh fault9) [] (omega arith) (omega arith) few)))
 
 module _ (c : Cut) (short_enough : 4 * length c.records + broken c.whole ≤ most_bytes) where
   broken_small : c.whole ≡ false → length c.records < 600
@@ -88,10 +89,10 @@ module _ (c : Cut) (short_enough : 4 * length c.records + broken c.whole ≤ mos
   small_cut : SmallCheck (judged_cut c)
   unfolding judged_cut
   small_cut =
-      small_cond (not c.whole) (Refused 4 (length c.records)) _
+      small_cond (not c.whole) (faulty UnfitRecord (length c.records)) _
       (λ e. (omega arith, omega arith, broken_small (not-true c.whole e)))
       (λ e.
-      small_cond (ltb most_records (length c.records)) (Refused 5 most_records) _
+      small_cond (ltb most_records (length c.records)) (faulty TooManyRecords most_records) _
       (λ f. (omega arith, omega arith, omega arith))
       (λ f. small_judged c.records (ltb-false most_records (length c.records) f)))
 
@@ -99,7 +100,7 @@ module _ (c : Cut) (short_enough : 4 * length c.records + broken c.whole ≤ mos
 pub small_check : (table : List ℕ) → SmallCheck (check table)
 unfolding check cut
 small_check table =
-    small_cond (eqb (length table) 0 || ltb most_bytes (length table)) (Refused 3 0) _
+    small_cond (eqb (length table) 0 || ltb most_bytes (length table)) (faulty WrongSize 0) _
     (λ e. (omega arith, omega arith, omega arith))
     (λ e.
     small_cut (cut table)
@@ -142,9 +143,9 @@ module _ {A : Type 0} (counted : A → ℕ) where
   fits_unless true n f l h x = fits_refusal n 0 0 l h (omega arith) (omega arith)
   fits_unless false n f l h x = x
 
-  fits_accepted : (checked : Checked) (f : ℕ → Final A) → SmallCheck checked → ((n : ℕ) → checked ≡ Accepted n → Fits counted (f n)) → Fits counted (accepted checked f)
-  fits_accepted (Accepted n) f s h = h n refl
-  fits_accepted (Refused n p) f s h = fits_refusal n p 0 (omega (arith, s.0)) (omega (arith, s.1)) s.2 (omega arith)
+  fits_accepted : (checked : Checked) (f : ℕ → Final A) → SmallCheck checked → ((n : ℕ) → checked ≡ Ok n → Fits counted (f n)) → Fits counted (accepted checked f)
+  fits_accepted (Ok n) f s h = h n refl
+  fits_accepted (Err e) f s h = fits_refusal (number_of e.rule) e.place 0 (omega (arith, s.0)) (omega (arith, s.1)) s.2 (omega arith)
 
 fits_result : {A : Type 0} (a : A) → Fits uncounted (result a)
 fits_result a = record { numbered = tt; number_fits = omega arith; place_fits = omega arith; count_fits = omega arith }
@@ -177,7 +178,7 @@ fits_final place (short p n) h f = fits_refusal uncounted 32 p n (omega arith) (
 fits_final place (beyond p n l) h f = fits_refusal uncounted 33 p n (omega arith) (omega arith) f.0 f.1
 
 -- The run of a list of an accepted table, and what it answers.
-module _ (table : List ℕ) (n : ℕ) (ok : check table ≡ Accepted n) (l : List ℕ) where
+module _ (table : List ℕ) (n : ℕ) (ok : check table ≡ Ok n) (l : List ℕ) where
   last_low : last (sheet table) < 600
   last_low = omega (arith, (accepted_fine table n ok).0.few)
 
@@ -210,8 +211,8 @@ module _ (scratch : ℕ) (table : List ℕ) where
       (go (check table) (small_check table))
     where
       go : (c : Checked) → SmallCheck c → Fits record_count (accepted c (λ n. result n))
-      go (Accepted n) s = record { numbered = tt; number_fits = omega arith; place_fits = omega arith; count_fits = omega arith }
-      go (Refused n p) s = fits_refusal record_count n p 0 (omega (arith, s.0)) (omega (arith, s.1)) s.2 (omega arith)
+      go (Ok n) s = record { numbered = tt; number_fits = omega arith; place_fits = omega arith; count_fits = omega arith }
+      go (Err e) s = fits_refusal record_count (number_of e.rule) e.place 0 (omega (arith, s.0)) (omega (arith, s.1)) s.2 (omega arith)
 
   pub fits_evaluate : (buffer : ℕ) (list : List ℕ) → Fits uncounted (evaluates scratch buffer table list)
   fits_evaluate buffer list =
@@ -259,9 +260,9 @@ module _ {A : Type 0} where
   late_past : (b : Bool) (n : ℕ) (f : Final A) → b ≡ false → Late f → Late (unless b n f)
   late_past b n f e h = ap (λ x. is_early (final_number (unless x n f))) e ∙ h
 
-  late_accepted : (checked : Checked) (f : ℕ → Final A) → SmallCheck checked → ((n : ℕ) → checked ≡ Accepted n → Late (f n)) → Late (accepted checked f)
-  late_accepted (Accepted n) f s h = h n refl
-  late_accepted (Refused n p) f s h = late_number n s.0
+  late_accepted : (checked : Checked) (f : ℕ → Final A) → SmallCheck checked → ((n : ℕ) → checked ≡ Ok n → Late (f n)) → Late (accepted checked f)
+  late_accepted (Ok n) f s h = h n refl
+  late_accepted (Err e) f s h = late_number (number_of e.rule) s.0
 
   late_final : (place : ℕ) (r : Run A) → FitsRun r → Late (final place r)
   late_final place (gave a k []) f = refl

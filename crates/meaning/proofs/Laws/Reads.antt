@@ -21,7 +21,7 @@ use Rattle.patterns.proofs.Laws.Named.{Told, told}
 use Rattle.patterns.specs.Pattern.{holds_named as holds_at}
 use Rattle.tables.specs.declared.Role.{Role}
 use Rattle.tables.specs.declared.Role.TheVariants.{Plain, Condition, Body, Pattern as Part, Name}
-use Rattle.tables.specs.declared.Checked.TheVariants.{Accepted}
+use Rattle.std.specs.Prelude.{Ok}
 use Rattle.tables.specs.Record.{Record, shape, head_of, is_expression, is_pattern, is_known, name_of, quote_of, named as operands_of, operand, role_at}
 use Rattle.tables.specs.Table.{record_at, kind_at}
 use Rattle.tables.specs.Sheet.{some as some_of, is_covered, is_bound, holds_name, pattern_of}
@@ -65,7 +65,7 @@ some_at (x ∷ roles) (suc i) e = or_inr (is_covered x) _ (some_at roles i e)
 first_role : (k i : ℕ) → is_covered (get_or (shape k).roles i Plain) ≡ true → is_first (get_or (shape k).roles 0 Plain) ≡ true
 first_role k i e = and_elim_left _ (leb 3 (shape k).least) (binder_roles k (some_at (shape k).roles i e))
 
-module _ (table : List ℕ) (n : ℕ) (ok : check table ≡ Accepted n) where
+module _ (table : List ℕ) (n : ℕ) (ok : check table ≡ Ok n) where
   abbrev rs : List Record
   rs = records table
 

@@ -8,8 +8,9 @@ use Rattle.choices.specs.Lists.{Complete}
 use Rattle.choices.specs.Paths.{first_list, next_list}
 use Rattle.choices.proofs.Walk.{Incomplete, incomplete, Settles, complete_whole}
 use Rattle.values.specs.Value.{Value, encode, value_limit as largest}
-use Rattle.tables.specs.declared.Checked.{Checked}
-use Rattle.tables.specs.declared.Checked.TheVariants.{Accepted, Refused}
+use Rattle.std.specs.Prelude.{Ok}
+use Rattle.tables.specs.declared.Rule.{Rule}
+use Rattle.tables.specs.Faults.{Checked, faulty, number_of}
 use Rattle.tables.specs.Check.{check}
 use Rattle.meaning.specs.State.{unbound}
 use Rattle.meaning.specs.Read.{sheet}
@@ -86,24 +87,24 @@ module _ (table : List ℕ) (scratch : ℕ) where
     past_2 buffer f room = past_1 _ ∙ unless_false 2 f (ltb buffer largest) (le-ltb buffer largest room)
 
     -- 3 to 9: the table is refused.
-    module _ (n p : ℕ) (no : check table ≡ Refused n p) where
-      refuse_table : {A : Type 0} (f : ℕ → Final A) → accepted (check table) f ≡ refuses n p 0
+    module _ (n : Rule) (p : ℕ) (no : check table ≡ faulty n p) where
+      refuse_table : {A : Type 0} (f : ℕ → Final A) → accepted (check table) f ≡ refuses (number_of n) p 0
       refuse_table f = ap (λ (c : Checked). accepted c f) no
 
-      pub checks_refused : checks scratch table ≡ refuses n p 0
+      pub checks_refused : checks scratch table ≡ refuses (number_of n) p 0
       checks_refused = past_1 _ ∙ refuse_table (λ k. result k)
 
-      pub evaluates_refused : (buffer : ℕ) (l : List ℕ) → largest ≤ buffer → evaluates scratch buffer table l ≡ refuses n p 0
+      pub evaluates_refused : (buffer : ℕ) (l : List ℕ) → largest ≤ buffer → evaluates scratch buffer table l ≡ refuses (number_of n) p 0
       evaluates_refused buffer l room = past_2 buffer _ room ∙ refuse_table _
 
-      pub firsts_refused : (w : Walk) → firsts scratch table w ≡ refuses n p 0
+      pub firsts_refused : (w : Walk) → firsts scratch table w ≡ refuses (number_of n) p 0
       firsts_refused w = past_1 _ ∙ refuse_table _
 
-      pub steps_refused : (w : Walk) → steps scratch table w ≡ refuses n p 0
+      pub steps_refused : (w : Walk) → steps scratch table w ≡ refuses (number_of n) p 0
       steps_refused w = past_1 _ ∙ refuse_table _
 
     -- An accepted table.
-    module _ (n : ℕ) (ok : check table ≡ Accepted n) where
+    module _ (n : ℕ) (ok : check table ≡ Ok n) where
       on : {A : Type 0} (f : ℕ → Final A) → unless (ltb scratch scratch_bytes) 1 (accepted (check table) f) ≡ f n
       on f = past_1 (accepted (check table) f) ∙ ap (λ (c : Checked). accepted c f) ok
 

@@ -12,7 +12,7 @@ use Rattle.choices.specs.Outcome.{value}
 use Rattle.values.specs.Value.{Kind, set, sequence, map, tuple, Value, boolean, integer, quote, collection, Items, none, more}
 use Rattle.operators.specs.Answer.{is, Built, built, stopped, closed, as_boolean, as_set}
 use Rattle.operators.specs.Enumerations.{build_on}
-use Rattle.integers.specs.declared.Order.TheVariants.{Lower}
+use Rattle.std.specs.declared.cmp.Ordering.TheVariants.{Less}
 use Rattle.patterns.specs.Binding.{Binding, order_bindings}
 use Rattle.patterns.proofs.Laws.Ordered.{BeforeEach, Rising, before_in, bindings_asymmetric}
 use Rattle.patterns.specs.Pattern.{Pattern, list_of, items_of}
@@ -202,7 +202,7 @@ module _ (test : Binding → Outcomes Bool) where
 not_later : (b β : Binding) (bs : List Binding) → Rising (b ∷ bs) → In β bs → β ≡ b → ⊥
 not_later b β bs h i e =
     let l = before_in b bs β h.0 i in
-    bindings_asymmetric b β l (subst (λ (x : Binding). order_bindings x b ≡ Lower) (sym e) (subst (λ (x : Binding). order_bindings b x ≡ Lower) e l))
+    bindings_asymmetric b β l (subst (λ (x : Binding). order_bindings x b ≡ Less) (sym e) (subst (λ (x : Binding). order_bindings b x ≡ Less) e l))
 
 before_some : (b : Binding) (bs sat : List Binding) → BeforeEach b bs → ((β : Binding) → In β sat → In β bs) → BeforeEach b sat
 before_some b bs [] h k = tt

@@ -6,7 +6,7 @@ use borrow.Author.Tests.{leb-true}
 use mathlib.Mathlib.Data.Bool.Basic.{and_elim_left, and_elim_right}
 use Rattle.patterns.specs.Binding.{Binding}
 use Rattle.patterns.specs.Pattern.{Pattern}
-use Rattle.tables.specs.declared.Checked.TheVariants.{Accepted}
+use Rattle.std.specs.Prelude.{Ok}
 use Rattle.tables.specs.Record.{shape, is_known, operator}
 use Rattle.tables.specs.Table.{record_at}
 use Rattle.tables.specs.Check.{check}
@@ -19,7 +19,7 @@ use Rattle.meaning.proofs.Laws.Reads.{refuses_at}
 use Rattle.meaning.proofs.Laws.Binders.{in_table, named_pattern, named_low, bindings_in, cell_only}
 use Rattle.meaning.specs.Unreached.{Unreached}
 
-module _ (table : List ℕ) (n : ℕ) (ok : check table ≡ Accepted n) where
+module _ (table : List ℕ) (n : ℕ) (ok : check table ≡ Ok n) where
   known : (r k : ℕ) → kind_in table r ≡ k → 0 < k → is_known (shape k).head (record_at (records table) r) ≡ true
   known r k e h =
       let q = record_at (records table) r in

@@ -30,8 +30,8 @@ use Rattle.patterns.specs.Binder.{Formed, bound, refused as unformed, formed, bi
 use Rattle.patterns.proofs.Laws.Matched.{match_sized, bindings_exactly}
 use Rattle.patterns.proofs.Laws.Forming.{formed_bound}
 use Rattle.patterns.proofs.Laws.Named.{FineCell, fine}
-use Rattle.tables.specs.declared.Checked.{Checked}
-use Rattle.tables.specs.declared.Checked.TheVariants.{Accepted, Refused}
+use Rattle.std.specs.Prelude.{Ok, Err}
+use Rattle.tables.specs.Faults.{Checked}
 use Rattle.tables.specs.Check.{check}
 use Rattle.meaning.specs.Node.{Node, truth, whole, named, unary_of, binary_of, connective, if, enumeration, range, let_in, let_be, quantified, iota, set_comprehension, sequence_comprehension, map_comprehension, application, quoted, no_expression}
 use Rattle.meaning.specs.State.{State, unbound, over, under, held_value, value_in}
@@ -296,7 +296,7 @@ only_to s l zero r ρ h = only_stop _ 20 r
 only_to s l (suc n) r ρ h = only_node (λ a σ. meaning_to s n a σ) (λ a σ k. only_to s l n a σ k) s.pattern r (s.node r) (l r) ρ h
 
 -- THEOREM: in an accepted table, a record gives only well-formed values in a state whose values are well-formed.
-pub well_formed_lem : (table : List ℕ) (n : ℕ) → check table ≡ Accepted n → (r : ℕ) (ρ : State) → FineState ρ → (v : Value) → Gives (meaning (sheet table) r ρ) (value v) → WellFormed v
+pub well_formed_lem : (table : List ℕ) (n : ℕ) → check table ≡ Ok n → (r : ℕ) (ρ : State) → FineState ρ → (v : Value) → Gives (meaning (sheet table) r ρ) (value v) → WellFormed v
 unfolding meaning
 well_formed_lem table n ok r ρ h v g = only_to (sheet table) (λ q. (proper table n ok q).literal) (suc r) r ρ h v g
 
@@ -305,11 +305,11 @@ fine_unbound : FineState unbound
 fine_unbound = each_cell unbound (λ y i. subst FineCell (sym (get_or-replicate names y free free i)) tt)
 
 -- THEOREM: the values of a sheet's tree are well-formed.
-pub tree_well_formed : (table : List ℕ) (n : ℕ) → check table ≡ Accepted n → (v : Value) → Gives (tree table) (value v) → WellFormed v
+pub tree_well_formed : (table : List ℕ) (n : ℕ) → check table ≡ Ok n → (v : Value) → Gives (tree table) (value v) → WellFormed v
 tree_well_formed table n ok v g = well_formed_lem table n ok (last (sheet table)) unbound fine_unbound v g
 
 -- THEOREM: the value of a run under a list is well-formed.
-run_well_formed : (table : List ℕ) (n : ℕ) → check table ≡ Accepted n → (l : List ℕ) (v : Value) (k : ℕ) (rest : List ℕ) → run (tree table) l ≡ gave v k rest → WellFormed v
+run_well_formed : (table : List ℕ) (n : ℕ) → check table ≡ Ok n → (l : List ℕ) (v : Value) (k : ℕ) (rest : List ℕ) → run (tree table) l ≡ gave v k rest → WellFormed v
 run_well_formed table n ok l v k rest e =
     tree_well_formed table n ok v (subst (Given (tree table)) e (follow_given (tree table) most_choices l))
 
@@ -331,7 +331,7 @@ pub evaluates_well_formed : (scratch buffer : ℕ) (table l : List ℕ) (v : Val
 evaluates_well_formed scratch buffer table l v e = go (check table) refl (unless_result (ltb buffer largest) 2 _ v (unless_result (ltb scratch scratch_bytes) 1 _ v e))
   where
     go : (c : Checked) → check table ≡ c → accepted c (λ n. unless (ltb most_choices (length l)) 10 (final (last (sheet table)) (run (tree table) l))) ≡ result v → WellFormed v
-    go (Accepted n) ok f =
+    go (Ok n) ok f =
         let (k, rest, g) = final_gave (last (sheet table)) (run (tree table) l) v (unless_result (ltb most_choices (length l)) 10 _ v f) in
         run_well_formed table n ok l v k rest g
-    go (Refused n p) ok f = impossible cc
+    go (Err e) ok f = impossible cc

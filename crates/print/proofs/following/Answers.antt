@@ -1,6 +1,7 @@
 -- `following` meets its contract, case by case.
 use mathlib.Core.Path.{sym, ap, ap₂}
 use mathlib.Core.Bool.{Bool}
+use mathlib.Core.Logic.{⊎_elim}
 use borrow.Author.Tests.{not-true, not-false}
 use Rattle.print.specs.Contract.{following}
 use Rattle.print.proofs.following.Goals as goal
@@ -10,10 +11,8 @@ returns-then-not-is_map c =
     sym (ap (λ (b : Bool). following b c.args.separator) (not-true c.args.is_map c.if-not-is_map.true-raw))
 
 pub returns-in-Nothing : goal.returns-in-Nothing
-returns-in-Nothing c = sym (ap₂ following (not-false c.args.is_map c.if-not-is_map.false-raw) c.in-Nothing.is)
-
-pub returns-in-Comma : goal.returns-in-Comma
-returns-in-Comma c = sym (ap₂ following (not-false c.args.is_map c.if-not-is_map.false-raw) c.in-Comma.is)
+returns-in-Nothing c =
+    ⊎_elim (λ e. sym (ap₂ following (not-false c.args.is_map c.if-not-is_map.false-raw) e)) (λ e. sym (ap₂ following (not-false c.args.is_map c.if-not-is_map.false-raw) e)) c.in-Nothing.is
 
 pub returns-in-Arrow : goal.returns-in-Arrow
 returns-in-Arrow c = sym (ap₂ following (not-false c.args.is_map c.if-not-is_map.false-raw) c.in-Arrow.is)

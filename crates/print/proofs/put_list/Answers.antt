@@ -19,44 +19,30 @@ returns-then-list-eq0 c =
 pub bounds-list-0 : goal.bounds-list-0
 bounds-list-0 c = omega arith
 
-pub overflow_cast-list : goal.overflow_cast-list
-overflow_cast-list c = omega (arith, c.type_inv.list 0)
-
 pub put_number-end-requires : goal.put_number-end-requires
-put_number-end-requires c = omega (arith, listing_length c.args.list.now (omega arith))
+put_number-end-requires c = rw c.from.ensures (omega (arith, listing_length c.args.list.now (omega arith)))
 
 pub loop-i-init : goal.loop-i-init
-loop-i-init c = listing_start c.args.list.now (omega arith) c.put_number-end.ensures c.requires
+loop-i-init c = listing_start c.args.list.now (omega arith) (rw c.from.ensures at c.put_number-end.ensures) c.requires
 
 pub bounds-out-end : goal.bounds-out-end
 bounds-out-end c = omega (arith, tails_length c.args.list.now c.loop-i-test.true)
-
-pub bounds-list-i : goal.bounds-list-i
-bounds-list-i c = omega arith
-
-pub overflow_cast-list-in-loop-i : goal.overflow_cast-list-in-loop-i
-overflow_cast-list-in-loop-i c = omega (arith, c.type_inv.list c.loop-i.i)
 
 pub overflow_add-end : goal.overflow_add-end
 overflow_add-end c = omega (arith, tails_length c.args.list.now c.loop-i-test.true)
 
 pub put_number-end-requires-in-loop-i : goal.put_number-end-requires-in-loop-i
 put_number-end-requires-in-loop-i c =
-    omega (arith, tails_length c.args.list.now c.loop-i-test.true, length-set c.loop-i.out c.loop-i.end 44)
-
-pub overflow_add-i : goal.overflow_add-i
-overflow_add-i c = omega arith
-
-pub loop-i-smaller : goal.loop-i-smaller
-loop-i-smaller c = omega arith
+    rw c.from-in-loop-i.ensures
+    (omega (arith, tails_length c.args.list.now c.loop-i-test.true, length-set c.loop-i.out c.loop-i.end 44))
 
 pub loop-i-preserved : goal.loop-i-preserved
 loop-i-preserved c =
-    listing_more c.args.list.now c.loop-i-test.true c.loop-i.invariant (wrote_after 44 c.put_number-end-in-loop-i.ensures)
+    listing_more c.args.list.now c.loop-i-test.true c.loop-i.invariant (wrote_after 44 (rw c.from-in-loop-i.ensures at c.put_number-end-in-loop-i.ensures))
 
 pub shape_of-out : goal.shape_of-out
 shape_of-out c = omega (arith, c.loop-i.invariant.long, wrote_length c.put_number-end.ensures)
 
 pub returns : goal.returns
 returns c =
-    wrote_as (sym (list_first c.args.list.now (omega arith))) (wrote_then c.put_number-end.ensures (listing_end c.args.list.now c.loop-i-test.false c.loop-i.invariant))
+    wrote_as (sym (list_first c.args.list.now (omega arith))) (wrote_then (rw c.from.ensures at c.put_number-end.ensures) (listing_end c.args.list.now c.loop-i-test.false c.loop-i.invariant))

@@ -12,15 +12,15 @@ use Rattle.prelude.proofs.Absurd.{never, impossible}
 use Rattle.prelude.proofs.Truth.{or_false_left, or_false_right, implied, by_lower}
 use Rattle.tables.specs.declared.Role.{Role}
 use Rattle.tables.specs.declared.Role.TheVariants.{Pattern}
-use Rattle.tables.specs.declared.Checked.{Checked}
-use Rattle.tables.specs.declared.Checked.TheVariants.{Accepted, Refused}
+use Rattle.std.specs.Prelude.{Ok, Err}
+use Rattle.tables.specs.declared.Fault.{Fault}
+use Rattle.tables.specs.Faults.{Checked}
 use Rattle.tables.specs.Record.{Record, Head, nothing, boolean, integer, quote, name, unary, binary, unknown, Shape, last_kind, shape, field, size, head_of, is_expression, is_pattern, operands, named, operand, role_at, name_of, fits, is_known, is_fit}
 use Rattle.tables.specs.Table.{cut, record_at, kind_at}
 use Rattle.tables.specs.Sheet.{any, lowest, some, greatest, is_in, is_name, holds_name, height, parent, role_in, is_covered, is_condition, is_binder, pattern_of, climb, is_bound, in_condition}
 use Rattle.tables.specs.Check.{most_bytes, most_records, most_height, is_of_sort, all_named, named_before, is_bad, fault6, fault7, chooses, fault8, fault9, judged, judged_cut, check, Clear6}
 use Rattle.tables.specs.Accepted.{records, Fine, AcceptedIsFine}
 use Rattle.tables.specs.Reading.{Indexed, CutOut}
-use Rattle.tables.specs.declared.reading.Cutting.{Cutting}
 use Rattle.tables.proofs.Laws.Tests.{any_none, low}
 use Rattle.tables.proofs.Laws.Below.{OperandsLower, fold_at, climb_up, climb_top, parent_higher, parent_is, role_is}
 use Rattle.tables.proofs.Laws.Kinds.{beyond, each_kind, pattern_most}
@@ -30,11 +30,11 @@ use Rattle.tables.proofs.Laws.Operands.{is_part, is_part_lem, all_parts, operand
 -- A test that would refuse does not pass.
 pub record Passed (b : Bool) (x : Checked) (n : ℕ) : Type 0 where
   pub not_refused : b ≡ false
-  pub on : x ≡ Accepted n
+  pub on : x ≡ Ok n
 
-passed : (b : Bool) (k p : ℕ) (x : Checked) (n : ℕ) → cond b (Refused k p) x ≡ Accepted n → Passed b x n
-passed true k p x n e = impossible cc
-passed false k p x n e = record { not_refused = refl; on = e }
+passed : (b : Bool) (f : Fault) (x : Checked) (n : ℕ) → cond b (Err f) x ≡ Ok n → Passed b x n
+passed true f x n e = impossible cc
+passed false f x n e = record { not_refused = refl; on = e }
 
 -- No record below n is at fault where the lowest one at fault is not below n.
 pub clear : (test : ℕ → Bool) (n : ℕ) → ltb (lowest test n) n ≡ false → (r : ℕ) → r < n → test r ≡ false
@@ -53,19 +53,19 @@ fit_records table r h = cut_fit (length table) table r h
 
 -- ---- accepted
 
-accepted_same : {m n : ℕ} → Accepted m ≡ Accepted n → n ≡ m
+accepted_same : {m n : ℕ} → ◌≡◌ {A = Checked} (Ok m) (Ok n) → n ≡ m
 accepted_same e = cc
 
 pub accepted_fine : AcceptedIsFine
 unfolding check judged_cut judged
 accepted_fine table n e =
-    let p3 = passed (eqb (length table) 0 || ltb most_bytes (length table)) _ _ _ n e in
-    let p4 = passed (not (cut table).whole) _ _ _ n p3.on in
-    let p5 = passed (ltb most_records (length (records table))) _ _ _ n p4.on in
-    let p6 = passed (ltb (lowest (fault6 (records table)) (length (records table))) (length (records table))) _ _ _ n p5.on in
-    let p7 = passed (ltb (lowest (fault7 (records table)) (length (records table))) (length (records table))) _ _ _ n p6.on in
-    let p8 = passed (ltb (lowest (fault8 (records table)) (length (records table))) (length (records table))) _ _ _ n p7.on in
-    let p9 = passed (ltb (lowest (fault9 (records table)) (length (records table))) (length (records table))) _ _ _ n p8.on in (
+    let p3 = passed (eqb (length table) 0 || ltb most_bytes (length table)) _ _ n e in
+    let p4 = passed (not (cut table).whole) _ _ n p3.on in
+    let p5 = passed (ltb most_records (length (records table))) _ _ n p4.on in
+    let p6 = passed (ltb (lowest (fault6 (records table)) (length (records table))) (length (records table))) _ _ n p5.on in
+    let p7 = passed (ltb (lowest (fault7 (records table)) (length (records table))) (length (records table))) _ _ n p6.on in
+    let p8 = passed (ltb (lowest (fault8 (records table)) (length (records table))) (length (records table))) _ _ n p7.on in
+    let p9 = passed (ltb (lowest (fault9 (records table)) (length (records table))) (length (records table))) _ _ n p8.on in (
       record {
         some_record = some_cut table (or_false_left (eqb (length table) 0) _ p3.not_refused) (not-false (cut table).whole p4.not_refused);
         few = ltb-false most_records (length (records table)) p5.not_refused;
@@ -78,15 +78,15 @@ accepted_fine table n e =
       accepted_same p9.on,
     )
 
-pub accepted_short : (table : List ℕ) (n : ℕ) → check table ≡ Accepted n → length table ≤ most_bytes
+pub accepted_short : (table : List ℕ) (n : ℕ) → check table ≡ Ok n → length table ≤ most_bytes
 unfolding check
 accepted_short table n e =
-    let p3 = passed (eqb (length table) 0 || ltb most_bytes (length table)) _ _ _ n e in
+    let p3 = passed (eqb (length table) 0 || ltb most_bytes (length table)) _ _ n e in
     ltb-false most_bytes (length table) (or_false_right (eqb (length table) 0) _ p3.not_refused)
 
 -- An index of an accepted table finds all its records.
-pub cut_accepted : {before : List ℕ} (table index : List ℕ) (c : Cutting) (n : ℕ) → CutOut table before index c → check table ≡ Accepted n → Indexed table index
-cut_accepted table index c n out e =
+pub cut_accepted : {before : List ℕ} (table index : List ℕ) (a : Checked) (n : ℕ) → CutOut table before index a → check table ≡ Ok n → Indexed table index
+cut_accepted table index a n out e =
     let few : length (records table) ≤ most_records = (accepted_fine table n e).0.few in
     record { few = few; entry = λ r h. out.entries r h (omega arith) }
 

@@ -9,7 +9,9 @@ use borrow.Author.Tests.{ltb-true, ltb-false, not-true, not-false}
 use lib.Dec.{eqb, ltb}
 use lib.ListN.{length}
 use Rattle.prelude.proofs.Absurd.{never}
-use Rattle.tables.specs.declared.Checked.TheVariants.{Accepted}
+use Rattle.std.specs.Prelude.{Ok}
+use Rattle.tables.specs.declared.Rule.{Rule as RuleName}
+use Rattle.tables.specs.declared.Rule.TheVariants.{WrongSize, UnfitRecord, TooManyRecords, WrongNaming, WrongBinding, ChoiceInCondition, TooHigh}
 use Rattle.tables.specs.Record.{Record}
 use Rattle.tables.specs.Table.{cut}
 use Rattle.tables.specs.Sheet.{lowest}
@@ -30,7 +32,7 @@ use Rattle.tables.proofs.Rules.Order.{Tests, Says, accepts, tested, refused_firs
 -- ---- rules 3 to 5
 
 module _ (table : List ℕ) where
-  tests3 : Tests table (rule 3 Broken3) (eqb (length table) 0 || ltb most_bytes (length table)) 0
+  tests3 : Tests table (rule WrongSize Broken3) (eqb (length table) 0 || ltb most_bytes (length table)) 0
   tests3 =
       record {
         hit = λ e. record { here = ⊎_elim (λ h. empty refl h) (λ h. large refl h) (tells.yes e); lower = λ q l b. absurd (omega arith) };
@@ -44,10 +46,10 @@ module _ (table : List ℕ) where
       broken p (empty e h) = inl h
       broken p (large e h) = inr h
 
-  tests4 : Tests table (rule 4 Broken4) (not (cut table).whole) (length (records table))
+  tests4 : Tests table (rule UnfitRecord Broken4) (not (cut table).whole) (length (records table))
   tests4 = go (cut_is table)
     where
-      go : CutIs table (cut table) → Tests table (rule 4 Broken4) (not (cut table).whole) (length (records table))
+      go : CutIs table (cut table) → Tests table (rule UnfitRecord Broken4) (not (cut table).whole) (length (records table))
       go (all_cut w are) = record { hit = λ e. never (sym (not-true (cut table).whole e) ∙ w); miss = λ e p. no_records table (records table) p are }
       go (not_cut w b) =
           record {
@@ -64,7 +66,7 @@ module _ (table : List ℕ) where
       go (not_cut w b) = absurd (kept (length (records table)) b)
 
   module _ (are : RecordsOf table (records table)) where
-    tests5 : Tests table (rule 5 Broken5) (ltb most_records (length (records table))) most_records
+    tests5 : Tests table (rule TooManyRecords Broken5) (ltb most_records (length (records table))) most_records
     tests5 =
         record {
           hit =
@@ -78,7 +80,7 @@ module _ (table : List ℕ) where
 
     -- ---- rules on records
 
-    tests_records : (Fault : List Record → ℕ → Type 0) (fault : ℕ → Bool) (n : ℕ) → ((r : ℕ) → r < length (records table) → Tells (fault r) (Fault (records table) r)) → Tests table (rule n (OfRecords Fault)) (ltb (lowest fault (length (records table))) (length (records table))) (lowest fault (length (records table)))
+    tests_records : (Fault : List Record → ℕ → Type 0) (fault : ℕ → Bool) (n : RuleName) → ((r : ℕ) → r < length (records table) → Tells (fault r) (Fault (records table) r)) → Tests table (rule n (OfRecords Fault)) (ltb (lowest fault (length (records table))) (length (records table))) (lowest fault (length (records table)))
     tests_records Fault fault n tells =
         record {
           hit =
@@ -104,21 +106,21 @@ module _ (table : List ℕ) where
   says =
       let rs : List Record = records table in
       let k : ℕ = length rs in
-      tested table (rule 3 Broken3) _ k _ 0 _ tests3
+      tested table (rule WrongSize Broken3) _ k _ 0 _ tests3
       (λ e3.
-      tested table (rule 4 Broken4) _ k _ k _ tests4
+      tested table (rule UnfitRecord Broken4) _ k _ k _ tests4
       (λ e4.
       let are : RecordsOf table (records table) = records_are (tests4.miss e4) in
-      tested table (rule 5 Broken5) _ k _ most_records _ (tests5 are)
+      tested table (rule TooManyRecords Broken5) _ k _ most_records _ (tests5 are)
       (λ e5.
-      tested table (rule 6 (OfRecords Fault6)) _ k _ (lowest (fault6 rs) k) _ (tests_records are Fault6 (fault6 rs) 6 (tells6 rs))
+      tested table (rule WrongNaming (OfRecords Fault6)) _ k _ (lowest (fault6 rs) k) _ (tests_records are Fault6 (fault6 rs) WrongNaming (tells6 rs))
       (λ e6.
       let clear6 : Clear6 rs = clear (fault6 rs) k e6 in
-      tested table (rule 7 (OfRecords Fault7)) _ k _ (lowest (fault7 rs) k) _ (tests_records are Fault7 (fault7 rs) 7 (tells7 rs clear6 (fit_records table)))
+      tested table (rule WrongBinding (OfRecords Fault7)) _ k _ (lowest (fault7 rs) k) _ (tests_records are Fault7 (fault7 rs) WrongBinding (tells7 rs clear6 (fit_records table)))
       (λ e7.
-      tested table (rule 8 (OfRecords Fault8)) _ k _ (lowest (fault8 rs) k) _ (tests_records are Fault8 (fault8 rs) 8 (tells8 rs clear6 (fit_records table)))
+      tested table (rule ChoiceInCondition (OfRecords Fault8)) _ k _ (lowest (fault8 rs) k) _ (tests_records are Fault8 (fault8 rs) ChoiceInCondition (tells8 rs clear6 (fit_records table)))
       (λ e8.
-      tested table (rule 9 (OfRecords Fault9)) _ k _ (lowest (fault9 rs) k) _ (tests_records are Fault9 (fault9 rs) 9 (tells9 rs clear6))
+      tested table (rule TooHigh (OfRecords Fault9)) _ k _ (lowest (fault9 rs) k) _ (tests_records are Fault9 (fault9 rs) TooHigh (tells9 rs clear6))
       (λ e9. accepts refl tt)))))))
 
   pub check_exact : CheckIsExact table
@@ -136,10 +138,10 @@ module _ (table : List ℕ) where
                   record { kept = kept; records = records table; are = records_are kept.1.0; number = same },
               λ a.
                   let same : length (records table) ≡ k = ap length (records_same table (records table) a.records (records_are a.kept.1.0) a.are) ∙ sym a.number in
-                  kept_accepted table rules (length (records table)) (check table) says a.kept ∙ ap Accepted same,
+                  kept_accepted table rules (length (records table)) (check table) says a.kept ∙ ap Ok same,
             );
       }
 
   -- The records that are cut out of an accepted table are its records.
-  pub accepted_records : (k : ℕ) → check table ≡ Accepted k → RecordsOf table (records table)
+  pub accepted_records : (k : ℕ) → check table ≡ Ok k → RecordsOf table (records table)
   accepted_records k e = records_are ((check_exact.accepted k).0 e).kept.1.0

@@ -3,7 +3,9 @@ use mathlib.Core.Path.{◌≡◌, refl}
 use mathlib.Core.List.{List, [], ◌∷◌}
 use Prim.Native.Nat.{ℕ}
 use Rattle.prelude.proofs.Absurd.{impossible}
-use Rattle.tables.specs.declared.Checked.TheVariants.{Accepted, Refused}
+use Rattle.std.specs.Prelude.{Ok}
+use Rattle.tables.specs.declared.Rule.TheVariants.{UnfitRecord}
+use Rattle.tables.specs.Faults.{faulty}
 use Rattle.tables.specs.Record.{shape, operands, is_fit}
 use Rattle.tables.specs.Table.{next, cut_by, cut}
 use Rattle.tables.specs.Check.{judged_cut, check}
@@ -13,12 +15,12 @@ use Rattle.tables.proofs.Rules.Exact.{check_exact}
 abbrev bytes : List ℕ
 bytes = 5 ∷ 0 ∷ 1 ∷ 0 ∷ 1 ∷ 4 ∷ 0 ∷ 33 ∷ []
 
-refused : check bytes ≡ Refused 4 1
+refused : check bytes ≡ faulty UnfitRecord 1
 unfolding check judged_cut cut cut_by next is_fit operands shape
 refused = refl
 
-by_rule_4 : Refuses bytes 4 1
-by_rule_4 = ((check_exact bytes).refused 4 1).0 refused
+by_rule_4 : Refuses bytes UnfitRecord 1
+by_rule_4 = ((check_exact bytes).refused UnfitRecord 1).0 refused
 
 not_accepted : (k : ℕ) → ¬ Accepts bytes k
-not_accepted k a = let e : check bytes ≡ Accepted k = ((check_exact bytes).accepted k).1 a in let f : check bytes ≡ Refused 4 1 = refused in impossible cc
+not_accepted k a = let e : check bytes ≡ Ok k = ((check_exact bytes).accepted k).1 a in let f : check bytes ≡ faulty UnfitRecord 1 = refused in impossible cc

@@ -1,6 +1,6 @@
-use Prim.Native.Nat.{◌+◌, ◌*◌, ◌-◌}
+use Prim.Native.Nat.{◌+◌, ◌*◌}
 use Rattle.tables.specs.Accepted.{records}
-use Rattle.checking.proofs.Heights.{Turn, Down}
+use Rattle.checking.proofs.Heights.{LowTo, Down}
 use Rattle.checking.proofs.height.+is_low_last_low.Given as goal
 
 abbrev pub decreases-is_low : goal.decreases-is_low
@@ -10,13 +10,7 @@ abbrev pub decreases-last_low : goal.decreases-last_low
 decreases-last_low l = 2 * l.r
 
 abbrev pub invariant-is_low-loop-room : goal.invariant-is_low-loop-room
-invariant-is_low-loop-room l = Down (records l.table) l.r l.most l.q l.room
-
-abbrev pub decreases-is_low-loop-room : goal.decreases-is_low-loop-room
-decreases-is_low-loop-room l = l.room
+invariant-is_low-loop-room l = Down (records l.sheet) l.r l.most l.q l.room
 
 abbrev pub invariant-last_low-loop-i : goal.invariant-last_low-loop-i
-invariant-last_low-loop-i l = Turn (records l.table) l.r l.most l.last l.n l.i
-
-abbrev pub decreases-last_low-loop-i : goal.decreases-last_low-loop-i
-decreases-last_low-loop-i l = l.last - l.i
+invariant-last_low-loop-i l = LowTo (records l.sheet) l.r l.most l.i

@@ -1,10 +1,6 @@
-use Prim.Native.Nat.{◌-◌}
 use Rattle.tables.specs.Accepted.{records}
 use Rattle.checking.proofs.Heights.{Going}
 use Rattle.checking.proofs.height.highest.Given as goal
 
 abbrev pub invariant-loop-i : goal.invariant-loop-i
-invariant-loop-i l = Going (records l.table) l.r l.high l.i
-
-abbrev pub decreases-loop-i : goal.decreases-loop-i
-decreases-loop-i l = l.count - l.i
+invariant-loop-i l = Going (records l.sheet) l.r l.high l.i

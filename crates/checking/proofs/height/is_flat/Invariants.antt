@@ -1,10 +1,6 @@
-use Prim.Native.Nat.{◌-◌}
 use Rattle.tables.specs.Accepted.{records}
 use Rattle.checking.proofs.Heights.{LowTo}
 use Rattle.checking.proofs.height.is_flat.Given as goal
 
 abbrev pub invariant-loop-i : goal.invariant-loop-i
-invariant-loop-i l = LowTo (records l.table) l.r 1 l.i
-
-abbrev pub decreases-loop-i : goal.decreases-loop-i
-decreases-loop-i l = l.count - l.i
+invariant-loop-i l = LowTo (records l.sheet) l.r 1 l.i

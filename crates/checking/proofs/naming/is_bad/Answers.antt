@@ -1,31 +1,28 @@
 -- By number, by sort, by mark.
-use Rattle.checking.proofs.Marks.{bad_high, bad_sort, bad_named, sort_is}
-use Rattle.tables.specs.Accepted.{records}
+use mathlib.Core.Path.{sym, ◌∙◌}
 use native.Mathlib.Omega.{arith}
-use mathlib.Core.Path.{◌∙◌}
+use borrow.Author.Tests.{le-leb, not-true, not-false}
+use Rattle.prelude.proofs.Absurd.{true_false}
+use Rattle.tables.specs.Accepted.{records}
+use Rattle.checking.proofs.Marks.{bad_high, bad_sort, bad_named, sort_is}
 use Rattle.checking.proofs.naming.is_bad.Goals as goal
+use Rattle.checking.proofs.naming.is_bad.Goals.{then-r-n, else-r-n}
 
-pub operand-n-requires : goal.operand-n-requires
-operand-n-requires c = c.requires.operand
+pub returns-then-not-is_of_sort : goal.returns-then-not-is_of_sort
+returns-then-not-is_of_sort c =
+    let rs = records c.args.sheet.now in
+    c.if-not-is_of_sort.true
+    ∙ elim c.if-r-n.branch [
+      | then-r-n w ↦ bad_high rs c.args.r c.args.i c.operand-n.result c.operand-n.ensures.0 w.if-r-n.true
+      | else-r-n w ↦ bad_sort rs c.args.r c.args.i c.operand-n.result c.operand-n.ensures.0 w.if-r-n.false
+          (sort_is rs c.args.r c.args.i c.operand-n.result w.role.result w.kind.result w.is_of_sort.result w.role.ensures w.kind.ensures.0 w.is_of_sort.ensures ∙ not-true w.is_of_sort.result (sym w.value-is ∙ c.if-not-is_of_sort.true))
+    ]
 
-pub returns-then-r-n : goal.returns-then-r-n
-returns-then-r-n c =
-    bad_high (records c.args.table.now) c.args.r c.args.i c.operand-n.result c.operand-n.ensures.0 c.if-r-n.true
-
-pub role-requires : goal.role-requires
-role-requires c = c.requires.operand
-
-pub kind-requires : goal.kind-requires
-kind-requires c =
-    record { indexed = c.requires.operand.here.indexed; within = omega (arith, c.requires.operand.here.within) }
-
-pub returns-then-not-sorted : goal.returns-then-not-sorted
-returns-then-not-sorted c =
-    bad_sort (records c.args.table.now) c.args.r c.args.i c.operand-n.result c.operand-n.ensures.0 c.if-r-n.false ((sort_is (records c.args.table.now) c.args.r c.args.i c.operand-n.result c.role.result c.kind.result c.is_of_sort-sorted.result c.role.ensures c.kind.ensures.0 c.is_of_sort-sorted.ensures) ∙ c.if-not-sorted.true)
-
-pub is_marked-requires : goal.is_marked-requires
-is_marked-requires c = omega (arith, c.requires.operand.here.within, c.requires.operand.here.indexed.few)
-
-pub returns : goal.returns
-returns c =
-    c.is_marked.ensures ∙ c.requires.marked.is c.operand-n.result (omega (arith, c.requires.operand.here.within, c.requires.operand.here.indexed.few)) ∙ bad_named (records c.args.table.now) c.args.r c.args.i c.operand-n.result c.operand-n.ensures.0 c.if-r-n.false ((sort_is (records c.args.table.now) c.args.r c.args.i c.operand-n.result c.role.result c.kind.result c.is_of_sort-sorted.result c.role.ensures c.kind.ensures.0 c.is_of_sort-sorted.ensures) ∙ c.if-not-sorted.false)
+pub returns-else-not-is_of_sort : goal.returns-else-not-is_of_sort
+returns-else-not-is_of_sort c =
+    let rs = records c.args.sheet.now in
+    elim c.if-r-n.branch [
+      | then-r-n w ↦ true_false (sym (le-leb c.args.r c.operand-n.result w.if-r-n.true) ∙ sym w.value-is ∙ c.if-not-is_of_sort.false)
+      | else-r-n w ↦ c.requires.marked.is c.operand-n.result (omega (arith, w.if-r-n.false, c.requires.operand.here.within, c.requires.operand.here.few)) ∙ bad_named rs c.args.r c.args.i c.operand-n.result c.operand-n.ensures.0 w.if-r-n.false
+          (sort_is rs c.args.r c.args.i c.operand-n.result w.role.result w.kind.result w.is_of_sort.result w.role.ensures w.kind.ensures.0 w.is_of_sort.ensures ∙ not-false w.is_of_sort.result (sym w.value-is ∙ c.if-not-is_of_sort.false))
+    ]

@@ -5,26 +5,13 @@ use Rattle.tables.specs.Accepted.{records}
 use Rattle.checking.proofs.Marks.{names_start, names_more, names_end}
 use Rattle.checking.proofs.naming.mark_named.Goals as goal
 
-pub operand_count-count-requires : goal.operand_count-count-requires
-operand_count-count-requires c = c.requires.here
-
 pub loop-i-init : goal.loop-i-init
-loop-i-init c = names_start (records c.args.table.now) c.args.r c.args.marks.now c.requires.marked
-
-pub operand-requires : goal.operand-requires
-operand-requires c =
-    record { here = c.requires.here; has = omega (arith, c.loop-i-test.true, c.operand_count-count.ensures.0) }
-
-pub overflow_add-i : goal.overflow_add-i
-overflow_add-i c = omega (arith, c.loop-i-test.true, c.operand_count-count.ensures.1)
-
-pub loop-i-smaller : goal.loop-i-smaller
-loop-i-smaller c = omega arith
+loop-i-init c = names_start (records c.args.sheet.now) c.args.r c.args.marks.now c.requires.marked
 
 pub loop-i-preserved : goal.loop-i-preserved
 loop-i-preserved c =
-    names_more (records c.args.table.now) c.args.r c.loop-i.i c.operand.result _ (omega (arith, c.loop-i-test.true, c.operand_count-count.ensures.0)) c.operand.ensures.0 (c.mark.ensures (named_before (records c.args.table.now) c.args.r c.loop-i.i) c.loop-i.invariant.marked)
+    names_more (records c.args.sheet.now) c.args.r c.loop-i.i c.operand.result _ (omega (arith, c.loop-i-test.true, c.operand_count-count.ensures.0)) c.operand.ensures.0 (c.mark.ensures (named_before (records c.args.sheet.now) c.args.r c.loop-i.i) c.loop-i.invariant.marked)
 
 pub returns : goal.returns
 returns c =
-    names_end (records c.args.table.now) c.args.r c.loop-i.i c.loop-i.marks c.requires.here.within c.loop-i.invariant (omega (arith, c.loop-i-test.false, c.operand_count-count.ensures.0))
+    names_end (records c.args.sheet.now) c.args.r c.loop-i.i c.loop-i.marks c.requires.here.within c.loop-i.invariant (omega (arith, c.loop-i-test.false, c.operand_count-count.ensures.0))

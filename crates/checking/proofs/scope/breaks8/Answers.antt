@@ -11,46 +11,32 @@ use native.Mathlib.Omega.{arith}
 use mathlib.Core.Path.{sym, ap, ◌∙◌}
 use Rattle.checking.proofs.scope.breaks8.Goals as goal
 
-pub kind-k-requires : goal.kind-k-requires
-kind-k-requires c = c.requires.here
-
 pub offset_bounds-above-r : goal.offset_bounds-above-r
-offset_bounds-above-r c = omega (arith, c.requires.here.within, c.requires.here.indexed.few)
+offset_bounds-above-r c = omega (arith, c.requires.here.within, c.requires.here.few)
 
 pub bounds-above-r : goal.bounds-above-r
-bounds-above-r c = omega (arith, c.requires.here.within, c.requires.here.indexed.few)
+bounds-above-r c = omega (arith, c.requires.here.within, c.requires.here.few)
 
 pub has-requires : goal.has-requires
 has-requires c = omega arith
 
 pub returns-then-k-eq-LET_BE : goal.returns-then-k-eq-LET_BE
 returns-then-k-eq-LET_BE c =
-    let_be8 (records c.args.table.now) c.args.r c.has.result (sym c.kind-k.ensures.0 ∙ c.if-k-eq-LET_BE.true) (c.has.ensures ∙ ap (λ (m : ℕ). has_bit m 0) (c.requires.around.is c.args.r c.requires.here.within (omega arith)) ∙ around_condition (records c.args.table.now) c.args.r)
+    let_be8 (records c.args.sheet.now) c.args.r c.has.result (sym c.kind-k.ensures.0 ∙ c.if-k-eq-LET_BE.true) (c.has.ensures ∙ ap (λ (m : ℕ). has_bit m 0) (c.requires.around.is c.args.r c.requires.here.within (omega arith)) ∙ around_condition (records c.args.sheet.now) c.args.r)
 
 pub returns-then-k-ne-LET : goal.returns-then-k-ne-LET
 returns-then-k-ne-LET c =
-    other8 (records c.args.table.now) c.args.r (λ e. c.if-k-eq-LET_BE.false (c.kind-k.ensures.0 ∙ e)) (λ e. c.if-k-ne-LET.true (c.kind-k.ensures.0 ∙ e))
+    other8 (records c.args.sheet.now) c.args.r (λ e. c.if-k-eq-LET_BE.false (c.kind-k.ensures.0 ∙ e)) (λ e. c.if-k-ne-LET.true (c.kind-k.ensures.0 ∙ e))
 
 pub pattern_bits-requires : goal.pattern_bits-requires
 pattern_bits-requires c =
-    record { operand = record { here = c.requires.here; has = let_operand (record_at (records c.args.table.now) c.args.r) (fit_records c.args.table.now c.args.r c.requires.here.within) (sym c.kind-k.ensures.0 ∙ c.if-k-ne-LET.false) }; clear = c.requires.clear; below = c.requires.below }
+    record { operand = record { here = c.requires.here; has = let_operand (record_at (records c.args.sheet.now) c.args.r) (fit_records c.args.sheet.now c.args.r c.requires.here.within) (sym c.kind-k.ensures.0 ∙ c.if-k-ne-LET.false) }; clear = c.requires.clear; below = c.requires.below }
 
-pub has-loose-requires : goal.has-loose-requires
-has-loose-requires c = omega arith
+pub returns-then-has : goal.returns-then-has
+returns-then-has c =
+    let8 (records c.args.sheet.now) c.args.r c.has-then-has.result (sym c.kind-k.ensures.0 ∙ c.if-k-ne-LET.false) (sym (c.has-2.ensures ∙ ap (λ (m : ℕ). has_bit m 1) c.pattern_bits.ensures ∙ held_loose (records c.args.sheet.now) (pattern_of (records c.args.sheet.now) c.args.r)) ∙ c.if-has.true) (c.has-then-has.ensures ∙ ap (λ (m : ℕ). has_bit m 0) (c.requires.around.is c.args.r c.requires.here.within (omega arith)) ∙ around_condition (records c.args.sheet.now) c.args.r)
 
-pub returns-then-not-loose : goal.returns-then-not-loose
-returns-then-not-loose c =
-    plain8 (records c.args.table.now) c.args.r (sym c.kind-k.ensures.0 ∙ c.if-k-ne-LET.false) ((sym (c.has-loose.ensures ∙ ap (λ (m : ℕ). has_bit m 1) c.pattern_bits.ensures ∙ held_loose (records c.args.table.now) (pattern_of (records c.args.table.now) c.args.r))) ∙ c.if-not-loose.true)
-
-pub offset_bounds-above-r-2 : goal.offset_bounds-above-r-2
-offset_bounds-above-r-2 c = omega (arith, c.requires.here.within, c.requires.here.indexed.few)
-
-pub bounds-above-r-2 : goal.bounds-above-r-2
-bounds-above-r-2 c = omega (arith, c.requires.here.within, c.requires.here.indexed.few)
-
-pub has-requires-2 : goal.has-requires-2
-has-requires-2 c = omega arith
-
-pub returns : goal.returns
-returns c =
-    let8 (records c.args.table.now) c.args.r c.has-2.result (sym c.kind-k.ensures.0 ∙ c.if-k-ne-LET.false) ((sym (c.has-loose.ensures ∙ ap (λ (m : ℕ). has_bit m 1) c.pattern_bits.ensures ∙ held_loose (records c.args.table.now) (pattern_of (records c.args.table.now) c.args.r))) ∙ c.if-not-loose.false) (c.has-2.ensures ∙ ap (λ (m : ℕ). has_bit m 0) (c.requires.around.is c.args.r c.requires.here.within (omega arith)) ∙ around_condition (records c.args.table.now) c.args.r)
+pub returns-else-has : goal.returns-else-has
+returns-else-has c =
+    c.if-has.false
+    ∙ plain8 (records c.args.sheet.now) c.args.r (sym c.kind-k.ensures.0 ∙ c.if-k-ne-LET.false) (sym (c.has-2.ensures ∙ ap (λ (m : ℕ). has_bit m 1) c.pattern_bits.ensures ∙ held_loose (records c.args.sheet.now) (pattern_of (records c.args.sheet.now) c.args.r)) ∙ c.if-has.false)

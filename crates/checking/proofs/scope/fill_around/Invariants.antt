@@ -4,7 +4,4 @@ use Prim.Native.Nat.{◌≤◌}
 use Rattle.checking.proofs.scope.fill_around.Given as goal
 
 abbrev pub invariant-loop-q : goal.invariant-loop-q
-invariant-loop-q l = (l.q ≤ l.count) × Around (records l.table) l.above l.q
-
-abbrev pub decreases-loop-q : goal.decreases-loop-q
-decreases-loop-q l = l.q
+invariant-loop-q l = (l.q ≤ l.count) × Around (records l.sheet) l.above l.q

@@ -1,32 +1,15 @@
--- The lowest so far.
-use Rattle.checking.proofs.Scan.{low_within, low_more, low_end}
+-- The first that breaks it.
+use Rattle.std.proofs.lemmas.Iterator.{first_from_Range}
+use mathlib.Core.Path.{◌≡◌}
+use mathlib.Core.Bool.{true, false}
+use borrow.Author.Rules.{rules}
 use Rattle.tables.specs.Check.{fault8}
 use Rattle.tables.specs.Accepted.{records}
-use native.Mathlib.Omega.{arith}
-use mathlib.Core.Path.{refl}
+use Rattle.checking.proofs.Scan.{found_in}
 use Rattle.checking.proofs.scope.lowest8.Goals as goal
-
-pub loop-r-init : goal.loop-r-init
-loop-r-init c = (omega arith, refl)
-
-pub breaks8-fault-requires : goal.breaks8-fault-requires
-breaks8-fault-requires c =
-    record { here = record { indexed = c.requires.kept.whole.indexed; within = omega (arith, c.loop-r-test.true, c.requires.kept.whole.all) }; clear = c.requires.kept.clear; below = c.requires.below; around = c.requires.around }
-
-pub next_low-low-requires : goal.next_low-low-requires
-next_low-low-requires c =
-    (low_within (fault8 (records c.args.table.now)) c.loop-r.low c.loop-r.r c.loop-r.invariant.1, omega (arith, c.loop-r-test.true, c.requires.kept.whole.all, c.requires.kept.whole.indexed.few))
-
-pub overflow_add-r : goal.overflow_add-r
-overflow_add-r c = omega (arith, c.loop-r-test.true, c.requires.kept.whole.all, c.requires.kept.whole.indexed.few)
-
-pub loop-r-smaller : goal.loop-r-smaller
-loop-r-smaller c = omega arith
-
-pub loop-r-preserved : goal.loop-r-preserved
-loop-r-preserved c =
-    (omega (arith, c.loop-r-test.true), low_more (fault8 (records c.args.table.now)) c.loop-r.low c.loop-r.r c.next_low-low.result c.breaks8-fault.result c.loop-r.invariant.1 c.breaks8-fault.ensures c.next_low-low.ensures)
 
 pub returns : goal.returns
 returns c =
-    low_end (fault8 (records c.args.table.now)) c.loop-r.low c.loop-r.r c.args.count c.loop-r.invariant.1 c.loop-r.invariant.0 c.loop-r-test.false
+    let fault = fault8 (records c.args.sheet.now) in
+    found_in fault c.args.count c.find.result
+    (first_from_Range _ _ _ _ (λ r. true ≡ fault r) (λ r. false ≡ fault r) c.find.ensures.ran (λ r q k. search rules) (λ r q k. (search rules, search rules)))

@@ -8,43 +8,30 @@ use native.Mathlib.Omega.{arith}
 use mathlib.Core.Path.{refl, ap, ◌∙◌}
 use Rattle.checking.proofs.scope.push.Goals as goal
 
-pub operand_count-count-requires : goal.operand_count-count-requires
-operand_count-count-requires c = c.requires.here
-
 pub offset_bounds-above-q : goal.offset_bounds-above-q
-offset_bounds-above-q c = omega (arith, c.requires.here.within, c.requires.here.indexed.few)
+offset_bounds-above-q c = omega (arith, c.requires.here.within, c.requires.here.few)
 
 pub bounds-above-q : goal.bounds-above-q
-bounds-above-q c = omega (arith, c.requires.here.within, c.requires.here.indexed.few)
+bounds-above-q c = omega (arith, c.requires.here.within, c.requires.here.few)
 
 pub loop-i-init : goal.loop-i-init
-loop-i-init c = push_start (records c.args.table.now) c.requires.clear c.args.q c.args.above.now c.requires.around
-
-pub operand-n-requires : goal.operand-n-requires
-operand-n-requires c =
-    record { here = c.requires.here; has = omega (arith, c.loop-i-test.true, c.operand_count-count.ensures.0) }
+loop-i-init c = push_start (records c.args.sheet.now) c.requires.clear c.args.q c.args.above.now c.requires.around
 
 pub given-requires : goal.given-requires
 given-requires c =
     record { operand = record { here = c.requires.here; has = omega (arith, c.loop-i-test.true, c.operand_count-count.ensures.0) }; clear = c.requires.clear; below = c.requires.below }
 
-pub offset_bounds-above-n : goal.offset_bounds-above-n
-offset_bounds-above-n c = omega (arith, c.operand-n.ensures.1)
+pub offset_bounds-above-operand : goal.offset_bounds-above-operand
+offset_bounds-above-operand c = omega (arith, c.operand.ensures.1)
 
-pub bounds-above-n : goal.bounds-above-n
-bounds-above-n c =
-    omega (arith, c.operand-n.ensures.0, operand_lower (records c.args.table.now) c.requires.clear c.args.q c.loop-i.i c.requires.here.within (omega (arith, c.loop-i-test.true, c.operand_count-count.ensures.0)), c.requires.here.within, c.requires.here.indexed.few)
-
-pub overflow_add-i : goal.overflow_add-i
-overflow_add-i c = omega (arith, c.loop-i-test.true, c.operand_count-count.ensures.1)
-
-pub loop-i-smaller : goal.loop-i-smaller
-loop-i-smaller c = omega arith
+pub bounds-above-operand : goal.bounds-above-operand
+bounds-above-operand c =
+    omega (arith, c.operand.ensures.0, operand_lower (records c.args.sheet.now) c.requires.clear c.args.q c.loop-i.i c.requires.here.within (omega (arith, c.loop-i-test.true, c.operand_count-count.ensures.0)), c.requires.here.within, c.requires.here.few)
 
 pub loop-i-preserved : goal.loop-i-preserved
 loop-i-preserved c =
-    push_more (records c.args.table.now) c.requires.clear c.args.q c.loop-i.i c.operand-n.result c.union-m.result c.loop-i.above _ c.requires.here.within c.requires.here.indexed.few (omega (arith, c.loop-i-test.true, c.operand_count-count.ensures.0)) c.loop-i.invariant c.operand-n.ensures.0 (c.union-m.ensures ∙ ap (λ (k : ℕ). or_bits k c.given.result) (own_around (records c.args.table.now) c.requires.clear c.args.q c.args.above.now c.requires.here.within c.requires.around) ∙ ap (or_bits (around (records c.args.table.now) c.args.q)) c.given.ensures) refl
+    push_more (records c.args.sheet.now) c.requires.clear c.args.q c.loop-i.i c.operand.result c.union.result c.loop-i.above _ c.requires.here.within c.requires.here.few (omega (arith, c.loop-i-test.true, c.operand_count-count.ensures.0)) c.loop-i.invariant c.operand.ensures.0 (c.union.ensures ∙ ap (λ (k : ℕ). or_bits k c.given.result) (own_around (records c.args.sheet.now) c.requires.clear c.args.q c.args.above.now c.requires.here.within c.requires.around) ∙ ap (or_bits (around (records c.args.sheet.now) c.args.q)) c.given.ensures) refl
 
 pub returns : goal.returns
 returns c =
-    push_end (records c.args.table.now) c.requires.clear c.args.q c.loop-i.i c.loop-i.above c.requires.here.within c.loop-i.invariant (omega (arith, c.loop-i-test.false, c.operand_count-count.ensures.0))
+    push_end (records c.args.sheet.now) c.requires.clear c.args.q c.loop-i.i c.loop-i.above c.requires.here.within c.loop-i.invariant (omega (arith, c.loop-i-test.false, c.operand_count-count.ensures.0))

@@ -8,4 +8,4 @@ use Rattle.checking.proofs.sweep.own_of.Goals as goal
 
 pub returns : goal.returns
 returns c =
-    expression_own (record_at (records c.args.table.now) c.args.r) (ap is_pattern (sym c.requires.1) ∙ sym c.is_pattern.ensures ∙ c.if-is_pattern.false)
+    expression_own (record_at (records c.args.sheet.now) c.args.r) (ap is_pattern (sym c.requires.1) ∙ sym c.is_pattern.ensures ∙ c.if-is_pattern.false)

@@ -6,14 +6,18 @@ pub returns-then-used-ge-LIMIT : goal.returns-then-used-ge-LIMIT
 returns-then-used-ge-LIMIT c = lent_many c.args.run.now c.requires.0 c.args.n (search rules)
 
 pub returns-then-n-entry : goal.returns-then-n-entry
-returns-then-n-entry c = lent_beyond c.args.run.now c.requires.0 c.args.n (search rules) (search rules) (search rules)
+returns-then-n-entry c =
+    let entry = rw c.from-used.ensures at c.from-entry.ensures in
+    lent_beyond c.args.run.now c.requires.0 c.args.n (search rules) (search rules) (search rules)
 
 pub returns-then-used-len : goal.returns-then-used-len
 returns-then-used-len c =
-    lent_chosen c.args.run.now c.requires.0 c.args.n (search rules) (search rules) c.wide-entry.ensures.0 (search rules)
+    rw c.from-used.ensures
+    (lent_chosen c.args.run.now c.requires.0 c.args.n (search rules) (search rules) (rw c.from-used.ensures at c.from-entry.ensures) (search rules))
 
-pub returns-then-grow-eq1 : goal.returns-then-grow-eq1
-returns-then-grow-eq1 c = lent_extended c.args.run.now c.requires.0 c.args.n (search rules) (search rules) (search rules)
+pub returns-then-run-eq1 : goal.returns-then-run-eq1
+returns-then-run-eq1 c =
+    rw c.from-used.ensures (lent_extended c.args.run.now c.requires.0 c.args.n (search rules) (search rules) (search rules))
 
 pub returns : goal.returns
 returns c = lent_short c.args.run.now c.requires.0 c.args.n (search rules) (search rules) (search rules)

@@ -1,7 +1,0 @@
--- From where the operands of its kind begin.
-use Rattle.tables.specs.Shapes.{first_of}
-use mathlib.Core.Path.{ap, ◌∙◌}
-use Rattle.tables.proofs.reading.operand_count.Goals as goal
-
-pub operands_from-requires : goal.operands_from-requires
-operands_from-requires c = (c.requires, c.first_operand-first.ensures.0 ∙ ap first_of c.kind.ensures.0)
