@@ -15,7 +15,7 @@ use Rattle.tables.specs.Record.{Record, is_pattern, is_composed, named, operand}
 use Rattle.tables.specs.Table.{record_at, kind_at}
 use Rattle.tables.specs.Sheet.{fold, some, is_in, parent}
 use Rattle.tables.specs.Check.{all_named}
-use Rattle.tables.proofs.Laws.Below.{OperandsLower as Lower, fold_at, parent_higher}
+use Rattle.tables.proofs.Laws.Below.{OperandsLower as Less, fold_at, parent_higher}
 use Rattle.tables.proofs.Laws.Tests.{in_append}
 use Rattle.tables.specs.Accepted.{records}
 use Rattle.tables.proofs.Laws.Accepted.{lower, operand_lower, operand_first, operand_parent}
@@ -92,7 +92,7 @@ sum (n ∷ ns) = n + sum ns
 -- ---- what lies below a record
 
 module _ (rs : List Record) (clear : Clear6 rs) where
-  low : Lower rs
+  low : Less rs
   low = lower rs clear
 
   -- x is p, or lies below it
@@ -257,7 +257,7 @@ inner_leaf : (r : Record) (ps : List Pattern) → is_pattern r.kind ≡ true →
 unfolding inner
 inner_leaf r ps p c = on_leaf r ps (λ q. inner q ≡ 0) p c (λ e. refl) (λ e. refl) (λ w a b. refl)
 
-module _ (table index : List ℕ) where
+module _ (table : List ℕ) where
   -- over operands: no more parts than records below
   module _ (rs : List Record) (clear : Clear6 rs) where
     sum_less : (ns : List ℕ) → ((i : ℕ) → i < length ns → suc (inner (pattern_at rs (get_or ns i 0))) ≤ count (under rs clear (get_or ns i 0)) (length rs))
@@ -269,24 +269,24 @@ module _ (table index : List ℕ) where
   abbrev RS : List Record
   RS = records table
 
-  inner_under : (clear : Clear6 RS) (b p : ℕ) (r : Readable table index p) → p < b → suc (inner (pattern_at RS p)) ≤ count (under RS clear p) (length RS)
+  inner_under : (clear : Clear6 RS) (b p : ℕ) (r : Readable table p) → p < b → suc (inner (pattern_at RS p)) ≤ count (under RS clear p) (length RS)
   unfolding inner
   inner_under clear zero p r k = absurd (omega arith)
   inner_under clear (suc b) p r k =
       by_test (is_composed (kind_at RS p))
       (λ c.
-      let d = ap inner (by_record table index p r) in
-      let m = inner_of_lem (record_at RS p) (inner_of table p) c (λ q. inner_length table index p r ∙ count_two table index p r c q) in
-      let l = sum_less RS clear (named (record_at RS p)) (λ i l. let o = operand_readable table index p r i l (operand (record_at RS p) i) refl in inner_under clear b (operand (record_at RS p) i) o.0 (omega (arith, o.1))) in
+      let d = ap inner (by_record table p r) in
+      let m = inner_of_lem (record_at RS p) (inner_of table p) c (λ q. inner_length table p r ∙ count_two table p r c q) in
+      let l = sum_less RS clear (named (record_at RS p)) (λ i l. let o = operand_readable table p r i l (operand (record_at RS p) i) refl in inner_under clear b (operand (record_at RS p) i) o.0 (omega (arith, o.1))) in
       omega (arith, d, m, l, below))
       (λ c.
-      let d = ap inner (by_record table index p r) ∙ inner_leaf (record_at RS p) (inner_of table p) r.pattern c in
+      let d = ap inner (by_record table p r) ∙ inner_leaf (record_at RS p) (inner_of table p) r.pattern c in
       omega (arith, d, below))
     where
       below : count (under RS clear p) (length RS) ≡ suc (sum (map (λ q. count (under RS clear q) (length RS)) (named (record_at RS p))))
-      below = count_under RS clear p r.here.within
+      below = count_under RS clear p r.here
 
 -- THEOREM: a pattern of an accepted table has fewer parts inside than the table has records
-pub inner_few : (table index : List ℕ) (p : ℕ) → Readable table index p → inner (pattern_at (records table) p) < 200
-inner_few table index p r =
-    omega (arith, inner_under table index r.fine.clear6 (suc p) p r (omega arith), count_most (under (records table) r.fine.clear6 p) (length (records table)), r.fine.few)
+pub inner_few : (table : List ℕ) (p : ℕ) → Readable table p → inner (pattern_at (records table) p) < 200
+inner_few table p r =
+    omega (arith, inner_under table r.fine.clear6 (suc p) p r (omega arith), count_most (under (records table) r.fine.clear6 p) (length (records table)), r.fine.few)

@@ -7,7 +7,7 @@ use native.Mathlib.Omega.{arith}
 use lib.ListN.{length, take}
 use lib.Seq.{take-take, length-take-le}
 use Rattle.integers.specs.Bytes.{word}
-use Rattle.integers.specs.declared.Order.{Order}
+use Rattle.std.specs.declared.cmp.Ordering.{Ordering}
 use Rattle.values.specs.Value.{Value, collection, set}
 use Rattle.values.specs.Items.{in_order}
 use Rattle.values.specs.Place.{At, Holds}
@@ -25,7 +25,11 @@ use Rattle.patterns.specs.Read.{Readable, pattern_at}
 use Rattle.patterns.proofs.Laws.Ordered.{bindings_refl}
 use Rattle.patterns.proofs.Laws.Nodes.{is_any, pattern_at_lem}
 use Rattle.bindings.specs.declared.Cursor.{Cursor}
-use Rattle.bindings.specs.declared.Opened.TheVariants as answer
+use Rattle.std.specs.Prelude.{Ok}
+use mir.Val.{bool_byte}
+use lib.Dec.{ltb}
+use borrow.Author.Tests.{lt-ltb, le-ltb}
+use Rattle.prelude.proofs.Truth.{by_lower}
 use Rattle.bindings.specs.Forming.{Values, Bindable}
 use Rattle.bindings.specs.Window.{Windowed, Lent, OpenedAs}
 use Rattle.bindings.specs.Opening.{any_count, AnyOpened}
@@ -43,7 +47,7 @@ any_narrow (v ∷ vs) = any_narrow vs
 any_sorted : (v : Value) (vs : List Value) → bindings any (v ∷ vs) ≡ nothing ∷ []
 unfolding gather matches sorted place
 any_sorted v [] = refl
-any_sorted v (w ∷ vs) = ap (place nothing) (any_sorted w vs) ∙ ap (λ (o : Order). in_order o (nothing ∷ nothing ∷ []) (nothing ∷ []) (nothing ∷ nothing ∷ [])) (bindings_refl nothing)
+any_sorted v (w ∷ vs) = ap (place nothing) (any_sorted w vs) ∙ ap (λ (o : Ordering). in_order o (nothing ∷ nothing ∷ []) (nothing ∷ []) (nothing ∷ nothing ∷ [])) (bindings_refl nothing)
 
 abbrev any_bindings : List Value → List Binding
 any_bindings [] = []
@@ -97,18 +101,21 @@ module _ (s : List ℕ) (at : ℕ) (w : Bool) where
   any_holds (vs, i) = holds (value_there w vs i).1
 
   module _ (n from : ℕ) (q : n ≡ word s at) (d : from ≡ cond w at (at + 4)) where
-    pub any_some : from < at + n → AnyOpened s at w (record { count = 1; names = 0; width = 0; from = 0 })
+    any_some : from < at + n → AnyOpened s at w (record { count = 1; names = 0; width = 0; from = 0 })
     any_some l vs i = let f = first-of s from (at + n) vs l (values_at s at w vs n from q d i) in rw f.is refl
 
-    pub any_none : at + n ≤ from → AnyOpened s at w (record { count = 0; names = 0; width = 0; from = 0 })
+    any_none : at + n ≤ from → AnyOpened s at w (record { count = 0; names = 0; width = 0; from = 0 })
     any_none l vs i = rw (none_left s from (at + n) vs l (values_at s at w vs n from q d i)) refl
 
-module _ (table index : List ℕ) (p : ℕ) (c : Readable table index p) (k : kind_at (records table) p ≡ 33) where
+    pub any_told : AnyOpened s at w (record { count = bool_byte (ltb from (at + n)); names = 0; width = 0; from = 0 })
+    any_told = by_lower from (at + n) (λ l. rw (lt-ltb from (at + n) l) (any_some l)) (λ l. rw (le-ltb from (at + n) l) (any_none l))
+
+module _ (table : List ℕ) (p : ℕ) (c : Readable table p) (k : kind_at (records table) p ≡ 33) where
   is_wildcard : pattern_at (records table) p ≡ any
-  is_wildcard = pattern_at_lem (records table) (lower (records table) c.fine.clear6) p c.here.within ∙ is_any (record_at (records table) p) (map (pattern_at (records table)) (operands_of (record_at (records table) p))) k
+  is_wildcard = pattern_at_lem (records table) (lower (records table) c.fine.clear6) p c.here ∙ is_any (record_at (records table) p) (map (pattern_at (records table)) (operands_of (record_at (records table) p))) k
 
   -- THEOREM: `-` is opened with one binding without names over any values, and with none over none
-  pub any_opened : (s : List ℕ) (at : ℕ) (w : Bool) (to : ℕ) → Lent s at w to → (r : Cursor) → AnyOpened s at w r → OpenedAs table p s s at w to (answer.Bound r)
+  pub any_opened : (s : List ℕ) (at : ℕ) (w : Bool) (to : ℕ) → Lent s at w to → (r : Cursor) → AnyOpened s at w r → OpenedAs table p s s at w to (Ok r)
   any_opened s at w to h r o = record {
     outside = record { long = refl; below = refl; above = refl };
     tells = λ vs i.

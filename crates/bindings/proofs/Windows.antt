@@ -25,9 +25,9 @@ use Rattle.tables.proofs.Laws.Accepted.{lower, fit_known, fit_least}
 use Rattle.tables.specs.Reading.{HasField}
 use Rattle.parts.specs.Part.{PartIs, CellIs}
 use Rattle.parts.specs.Chosen.{odd}
-use Rattle.parts.specs.Word.{unpacked}
+use Rattle.parts.specs.Word.{how_of, unpacked}
 use Rattle.parts.specs.declared.words.Env.{Env}
-use Rattle.parts.proofs.Packing.{cell_free, cell_value}
+use Rattle.parts.proofs.Packing.{how_none, some_how, whole_how, cell_free, cell_value}
 use Rattle.patterns.specs.Ways.{gather, exists}
 use Rattle.prelude.proofs.Lists.{map_at}
 use Rattle.prelude.proofs.Membership.{at_in}
@@ -43,12 +43,12 @@ use Rattle.patterns.proofs.Laws.Matched.{matched, only_sized, list_items}
 use Rattle.patterns.proofs.Laws.Plain.{plain_formed}
 use Rattle.patterns.specs.Read.{Readable, pattern_at}
 use Rattle.patterns.proofs.Laws.Nodes.{is_name, pattern_at_lem}
-use Rattle.forming.specs.declared.Formed.{Formed}
-use Rattle.forming.specs.declared.Formed.TheVariants.{Number, Refused}
+use Rattle.std.specs.Prelude.{Result, Ok, Err}
+use Rattle.std.specs.Result.{result_unwrap_or}
+use Rattle.prelude.specs.declared.Refusal.{Refusal}
+use Rattle.prelude.specs.Refusals.{number_of}
 use Rattle.forming.specs.Rows.{RowsAre}
 use Rattle.bindings.specs.declared.Cursor.{Cursor}
-use Rattle.bindings.specs.declared.Opened.{Opened}
-use Rattle.bindings.specs.declared.Opened.TheVariants as answer
 use Rattle.bindings.specs.Forming.{Values, Bindable, TellsRows, RowsFormed}
 use Rattle.bindings.specs.Window.{window, CellAt, past, CellsAt, place_of, InWindow, Windowed, Lent, TellsFrom, OpenedAs, Reachable, Reached, Underneath, WordFor, UnderBinding}
 use Rattle.bindings.specs.Laws.Window.{cells_end, all_free}
@@ -62,13 +62,13 @@ use Rattle.bindings.proofs.Writing.{mask_cons, filled_cons, mask_half, odd_some,
 module _ (u t : List ℕ) where
   word_cell : (b : Bool) (at w : ℕ) (c : Cell) → b ≡ true → (w % 4 ≡ 0 → w ≡ 0) → (w ≡ 0 → ⊥) → WordAt u at b w → CellIs t (unpacked w) c → CellAt u t at b c
   word_cell true at w c e blank f h k =
-      let (v, d, p) = cell_value {s = t} {p = unpacked w} {c = c} (λ z. f (blank z)) k in
+      let (v, d, p) = cell_value {s = t} {p = unpacked w} {c = c} (λ z. f (blank (how_none (w % 4) z))) k in
       (v, d, subst (λ (n : ℕ). PartIs t (unpacked n) v) (sym h) p)
   word_cell false at w c e blank f h k = impossible cc
 
   no_cell : (b : Bool) (at w : ℕ) (c : Cell) → b ≡ false → w ≡ 0 → CellIs t (unpacked w) c → CellAt u t at b c
   no_cell true at w c e f k = impossible cc
-  no_cell false at w c e f k = cell_free {s = t} {p = unpacked w} {c = c} (omega arith) k
+  no_cell false at w c e f k = cell_free {s = t} {p = unpacked w} {c = c} (ap (λ (n : ℕ). how_of (n % 4)) f) k
 
   cell_of_lem : (m at w : ℕ) (ws : List ℕ) (c : Cell) → m ≡ mask_of (w ∷ ws) → (w % 4 ≡ 0 → w ≡ 0) → WordAt u at (odd m) w → CellIs t (unpacked w) c → CellAt u t at (odd m) c
   cell_of_lem m at w ws c e blank h k = go (ℕ_discrete w 0)
@@ -106,10 +106,8 @@ told_at p vs j x l k =
 
 cell_zero : (s : List ℕ) (n : ℕ) (u : Bool) (c : Cell) → Told u c → CellIs s (unpacked n) c → (n % 4 ≡ 0 → n ≡ 0) → eqb n 0 ≡ not u
 cell_zero s n true c (v, e) (inl h) b = let z : is v ≡ free = sym e ∙ h.1 in impossible (cc (z))
-cell_zero s n true c (v, e) (inr (w, f, inl h)) b = ne_eqb n 0 (λ z. absurd (omega (arith, h.0)))
-cell_zero s n true c (v, e) (inr (w, f, inr (inl h))) b = ne_eqb n 0 (λ z. absurd (omega (arith, h.0)))
-cell_zero s n true c (v, e) (inr (w, f, inr (inr h))) b = ne_eqb n 0 (λ z. absurd (omega (arith, h.0)))
-cell_zero s n false c e (inl h) b = eq-eqb n 0 (b h.0)
+cell_zero s n true c (v, e) (inr (w, f, h)) b = ne_eqb n 0 (λ z. some_how h (ap (λ (k : ℕ). how_of (k % 4)) z))
+cell_zero s n false c e (inl h) b = eq-eqb n 0 (b (how_none (n % 4) h.0))
 cell_zero s n false c e (inr (w, f, h)) b = let z : free ≡ is w = sym e ∙ f in impossible (cc (z))
 
 module _ (p : Pattern) (vs : List Value) (s rows order : List ℕ) (n : ℕ) (g : RowsAre s rows order n (bindings p vs)) where
@@ -181,40 +179,40 @@ module _ (p : Pattern) (vs : List Value) (s rows order : List ℕ) (n : ℕ) (g 
 -- ---- opened over rows
 
 module _ (s rows order : List ℕ) where
-  some_rows : (o : Outcome) (n : ℕ) → TellsRows s rows order o (Number n) → (bs : List Binding) × (o ≡ bound bs) × RowsAre s rows order n bs
+  some_rows : (o : Outcome) (n : ℕ) → TellsRows s rows order o (Ok n) → (bs : List Binding) × (o ≡ bound bs) × RowsAre s rows order n bs
   some_rows (bound bs) n h = (bs, refl, h)
   some_rows (refused j) n h = absurd h
 
-  is_refused : (o : Outcome) (k : ℕ) → TellsRows s rows order o (Refused k) → o ≡ refused k
+  is_refused : (o : Outcome) (k : Refusal) → TellsRows s rows order o (Err k) → o ≡ refused (number_of k)
   is_refused (bound bs) k h = absurd h
   is_refused (refused j) k h = ap refused h
 
-module _ (table : List ℕ) (p : ℕ) (s : List ℕ) (at : ℕ) (whole : Bool) (to : ℕ) (room : to + window ≤ length s) (short : length s ≤ 65536) (rows order : List ℕ) (r : Formed)
+module _ (table : List ℕ) (p : ℕ) (s : List ℕ) (at : ℕ) (whole : Bool) (to : ℕ) (room : to + window ≤ length s) (short : length s ≤ 65536) (rows order : List ℕ) (r : Result ℕ Refusal)
     (h : RowsFormed table p (take to s) at whole rows order r) where
   abbrev P : Pattern
   P = pattern_at (records table) p
 
-  formed_rows : (n : ℕ) → r ≡ Number n → (vs : List Value) → Values (take to s) at whole vs → (formed P vs ≡ bound (bindings P vs)) × RowsAre (take to s) rows order n (bindings P vs)
+  formed_rows : (n : ℕ) → r ≡ Ok n → (vs : List Value) → Values (take to s) at whole vs → (formed P vs ≡ bound (bindings P vs)) × RowsAre (take to s) rows order n (bindings P vs)
   formed_rows n e vs i =
       let (bs, f, g) = some_rows (take to s) rows order (formed P vs) n (subst (TellsRows (take to s) rows order (formed P vs)) e (h vs i)) in
       let a = (formed_bound P vs bs f).all in
       (f ∙ ap bound a, subst (RowsAre (take to s) rows order n) a g)
 
-  pub cursor_asked : (n : ℕ) → r ≡ Number n → Bindable (take to s) at whole → (k : ℕ) → CursorHeld rows order n k
+  pub cursor_asked : (n : ℕ) → r ≡ Ok n → Bindable (take to s) at whole → (k : ℕ) → CursorHeld rows order n k
   cursor_asked n e (vs, i) k =
       let (f, g) = formed_rows n e vs i in
       record { wide = g.wide; long = g.long; few = g.few; row = λ l. omega (arith, g.row 0 l, g.few) }
 
-  pub from_refused : (k j : ℕ) → r ≡ Refused j → FormedFrom table p s s at whole to k (answer.Refused j)
+  pub from_refused : (k : ℕ) (j : Refusal) → r ≡ Err j → FormedFrom table p s s at whole to k (Err j)
   from_refused k j e = record {
     outside = record { long = refl; below = refl; above = refl };
     tells = λ vs i. let f = is_refused (take to s) rows order (formed P vs) j (subst (TellsRows (take to s) rows order (formed P vs)) e (h vs i)) in rw f refl;
   }
 
-  pub from_low : (n : ℕ) → r ≡ Number n → (k : ℕ) → LentFrom table p s at whole to k → k ≤ n
+  pub from_low : (n : ℕ) → r ≡ Ok n → (k : ℕ) → LentFrom table p s at whole to k → k ≤ n
   from_low n e k q = let (f, g) = formed_rows n e q.values q.are in omega (arith, q.low (bindings P q.values) f, g.count)
 
-  module _ (n : ℕ) (e : r ≡ Number n) (some : Bindable (take to s) at whole) (k : ℕ) (c : Cursor) (o : CursorOver rows order n k c) where
+  module _ (n : ℕ) (e : r ≡ Ok n) (some : Bindable (take to s) at whole) (k : ℕ) (c : Cursor) (o : CursorOver rows order n k c) where
     pub filling_asked : k ≤ n → FillHeld s to rows order c
     filling_asked low =
         let (vs, i) = some in
@@ -226,7 +224,7 @@ module _ (table : List ℕ) (p : ℕ) (s : List ℕ) (at : ℕ) (whole : Bool) (
         let (f, g) = formed_rows n e vs i in
         windowed_of P vs (take to s) rows order n g k low c o s t to refl (filling_asked low) w
 
-    pub from_told : k ≤ n → (t : List ℕ) → Filled s t to rows order c → FormedFrom table p s t at whole to k (answer.Bound c)
+    pub from_told : k ≤ n → (t : List ℕ) → Filled s t to rows order c → FormedFrom table p s t at whole to k (Ok c)
     from_told low t w = record {
       outside = w.outside;
       tells = λ vs i.
@@ -242,7 +240,7 @@ module _ (table : List ℕ) (p : ℕ) (s : List ℕ) (at : ℕ) (whole : Bool) (
 pub first_lent : (table : List ℕ) (p : ℕ) (s : List ℕ) (at : ℕ) (whole : Bool) (to : ℕ) → Lent s at whole to → LentFrom table p s at whole to 0
 first_lent table p s at whole to h = record { room = h.room; short = h.short; values = h.bindable.0; are = h.bindable.1; low = λ bs f. omega arith }
 
-pub opened_first : (table : List ℕ) (p : ℕ) (s t : List ℕ) (at : ℕ) (whole : Bool) (to : ℕ) (r : Opened) → FormedFrom table p s t at whole to 0 r → OpenedAs table p s t at whole to r
+pub opened_first : (table : List ℕ) (p : ℕ) (s t : List ℕ) (at : ℕ) (whole : Bool) (to : ℕ) (r : Result Cursor Refusal) → FormedFrom table p s t at whole to 0 r → OpenedAs table p s t at whole to r
 opened_first table p s t at whole to r h = record { outside = h.outside; tells = h.tells }
 
 module _ (table : List ℕ) (p : ℕ) (s : List ℕ) (at : ℕ) (whole : Bool) (to : ℕ) (c : Cursor) (k : ℕ) (h : Reachable table p s at whole to c k) where
@@ -257,14 +255,14 @@ module _ (table : List ℕ) (p : ℕ) (s : List ℕ) (at : ℕ) (whole : Bool) (
         omega (arith, ap (length {A = Binding}) e, h.window-is.count, h.below);
   }
 
-  module _ (t : List ℕ) (r : Opened) (o : FormedFrom table p s t at whole to k r) where
+  module _ (t : List ℕ) (r : Result Cursor Refusal) (o : FormedFrom table p s t at whole to k r) where
     tells_here : TellsFrom t to k (bound h.bindings) r
     tells_here = subst (λ (x : Outcome). TellsFrom t to k x r) h.bound_are (o.tells h.values h.are)
 
-    pub reach_never : (j : ℕ) → r ≡ answer.Refused j → ⊥
+    reach_never : (j : Refusal) → r ≡ Err j → ⊥
     reach_never j e = subst (TellsFrom t to k (bound h.bindings)) e tells_here
 
-    pub reach_told : (d : Cursor) → r ≡ answer.Bound d → Reached table p s t at whole to c k d
+    reach_told : (d : Cursor) → r ≡ Ok d → Reached table p s t at whole to c k d
     reach_told d e = record {
       outside = o.outside;
       count = sym w.count ∙ h.window-is.count;
@@ -279,7 +277,7 @@ module _ (table : List ℕ) (p : ℕ) (s : List ℕ) (at : ℕ) (whole : Bool) (
       };
     }
       where
-        here : TellsFrom t to k (bound h.bindings) (answer.Bound d)
+        here : TellsFrom t to k (bound h.bindings) (Ok d)
         here = subst (TellsFrom t to k (bound h.bindings)) e tells_here
 
         w : Windowed t to d h.bindings
@@ -287,6 +285,15 @@ module _ (table : List ℕ) (p : ℕ) (s : List ℕ) (at : ℕ) (whole : Bool) (
 
         from_is : d.from ≡ k
         from_is = here.1
+
+-- a refusal is impossible, as the bindings were formed before
+module _ (table : List ℕ) (p : ℕ) (s : List ℕ) (at : ℕ) (whole : Bool) (to : ℕ) (c : Cursor) (k : ℕ) (h : Reachable table p s at whole to c k) (t : List ℕ) (r : Result Cursor Refusal) (o : FormedFrom table p s t at whole to k r) where
+  pub reach_or : Reached table p s t at whole to c k (result_unwrap_or r c)
+  reach_or = go r refl
+    where
+      go : (q : Result Cursor Refusal) → r ≡ q → Reached table p s t at whole to c k (result_unwrap_or q c)
+      go (Ok d) e = reach_told table p s at whole to c k h t r o d e
+      go (Err j) e = absurd (reach_never table p s at whole to c k h t r o j e)
 
 pub reach_there : (table : List ℕ) (p : ℕ) (s : List ℕ) (at : ℕ) (whole : Bool) (to : ℕ) (c : Cursor) (k : ℕ) → Reachable table p s at whole to c k → c.from ≤ k → 4 * (c.width * (k - c.from) + c.width) ≤ 512
     → Reached table p s s at whole to c k c
@@ -314,7 +321,7 @@ module _ (u t : List ℕ) where
 
 member_part : (s t : List ℕ) (at : ℕ) (v : Value) → MemberAt s t at v → PartIs s (unpacked (bits32 t at)) v
 member_part s t at v m =
-    rw m.word-is (inl (omega arith, subst (λ (n : ℕ). At s n v) (omega (arith, m.low)) m.here))
+    rw m.word-is (inl (whole_how m.place, subst (λ (n : ℕ). At s n v) (omega (arith, m.low)) m.here))
 
 module _ (s : List ℕ) (at : ℕ) (whole : Bool) (to x : ℕ) (h : PlainHeld s at whole to x) where
   taken : length (take to s) ≡ to
@@ -476,7 +483,7 @@ take_less (suc n) (x ∷ l) = omega (arith, take_less n l)
 pub rows_asked : (s : List ℕ) (at : ℕ) (whole : Bool) (to m : ℕ) → m ≡ to → Bindable (take to s) at whole → length s ≤ 65536 → Bindable (take m s) at whole × (length (take m s) ≤ 65536)
 rows_asked s at whole to m e b l = (subst (λ (k : ℕ). Bindable (take k s) at whole) (sym e) b, omega (arith, take_less m s))
 
-pub rows_over : (table : List ℕ) (p : ℕ) (s : List ℕ) (at : ℕ) (whole : Bool) (to m : ℕ) → m ≡ to → (rows order : List ℕ) (r : Formed) → RowsFormed table p (take m s) at whole rows order r → RowsFormed table p (take to s) at whole rows order r
+pub rows_over : (table : List ℕ) (p : ℕ) (s : List ℕ) (at : ℕ) (whole : Bool) (to m : ℕ) → m ≡ to → (rows order : List ℕ) (r : Result ℕ Refusal) → RowsFormed table p (take m s) at whole rows order r → RowsFormed table p (take to s) at whole rows order r
 rows_over table p s at whole to m e rows order r h = subst (λ (k : ℕ). RowsFormed table p (take k s) at whole rows order r) e h
 
 pub width_most : (table : List ℕ) (p : ℕ) (s : List ℕ) (at : ℕ) (whole : Bool) (to : ℕ) (c : Cursor) (k : ℕ) → Reachable table p s at whole to c k → c.width * (k - c.from) ≤ 16 * 255
@@ -499,15 +506,15 @@ name_is_byte : (c : ℕ) → c ≡ 32 → size_of (shape c).head ≡ 1
 unfolding shape
 name_is_byte c e = subst (λ (n : ℕ). size_of (shape n).head ≡ 1) (sym e) refl
 
-module _ (table index : List ℕ) (p : ℕ) (c : Readable table index p) (k : kind_at (records table) p ≡ 32) where
+module _ (table : List ℕ) (p : ℕ) (c : Readable table p) (k : kind_at (records table) p ≡ 32) where
   small : name_of (record_at (records table) p) < 16
-  small = name_is_small (kind_at (records table) p) (record_at (records table) p) k (fit_known (record_at (records table) p) (c.fine.fit p c.here.within))
+  small = name_is_small (kind_at (records table) p) (record_at (records table) p) k (fit_known (record_at (records table) p) (c.fine.fit p c.here))
 
-  pub plain_field : HasField table index p 0
-  plain_field = record { here = c.here; has = omega (arith, fit_least (record_at (records table) p) (c.fine.fit p c.here.within), name_is_byte (kind_at (records table) p) k) }
+  pub plain_field : HasField table p 0
+  plain_field = record { here = c.here; has = omega (arith, fit_least (record_at (records table) p) (c.fine.fit p c.here), name_is_byte (kind_at (records table) p) k) }
 
   is_plain : pattern_at (records table) p ≡ name (name_of (record_at (records table) p))
-  is_plain = pattern_at_lem (records table) (lower (records table) c.fine.clear6) p c.here.within ∙ is_name (record_at (records table) p) (map (pattern_at (records table)) (operands_of (record_at (records table) p))) k
+  is_plain = pattern_at_lem (records table) (lower (records table) c.fine.clear6) p c.here ∙ is_name (record_at (records table) p) (map (pattern_at (records table)) (operands_of (record_at (records table) p))) k
 
   module _ (s : List ℕ) (at : ℕ) (whole : Bool) (to : ℕ) (h : Lent s at whole to) (x : ℕ) (e : x ≡ name_of (record_at (records table) p)) where
     pub plain_lent : PlainHeld s at whole to x
@@ -518,7 +525,7 @@ module _ (table index : List ℕ) (p : ℕ) (c : Readable table index p) (k : ki
     plain_are false vs i =
         ap (formed (name x)) (sym (list_items vs)) ∙ plain_formed x (items_of vs) plain_lent.low i.fine ∙ ap (λ (ws : List Value). bound (map (only x) ws)) (list_items vs)
 
-    pub plain_opened : (t : List ℕ) (r : Cursor) → PlainOpened s t at whole to x r → OpenedAs table p s t at whole to (answer.Bound r)
+    pub plain_opened : (t : List ℕ) (r : Cursor) → PlainOpened s t at whole to x r → OpenedAs table p s t at whole to (Ok r)
     plain_opened t r o = record {
       outside = o.outside;
       tells = λ vs i.

@@ -1,5 +1,5 @@
 -- What a binder's pattern is matched with, and what forming its bindings as rows asks and promises.
-use Rattle.std.specs.Prelude.{◌≡◌, Bool, true, false, List, [], ◌∷◌, ℕ, ◌≤◌, length}
+use Rattle.std.specs.Prelude.{◌≡◌, Bool, true, false, List, [], ◌∷◌, ℕ, ◌≤◌, length, Result, Ok, Err}
 use Rattle.values.specs.Value.{Value, collection, set}
 use Rattle.values.specs.Place.{At, ItemsAt}
 use Rattle.tables.specs.Accepted.{records}
@@ -8,8 +8,8 @@ use Rattle.patterns.specs.Binding.{Binding}
 use Rattle.patterns.specs.Pattern.{items_of, matches, wide}
 use Rattle.patterns.specs.Binder.{most_bindings, Formed as Outcome, bound, refused, formed}
 use Rattle.patterns.specs.Read.{Readable, pattern_at}
-use Rattle.forming.specs.declared.Formed.{Formed}
-use Rattle.forming.specs.declared.Formed.TheVariants.{Number, Refused}
+use Rattle.prelude.specs.declared.Refusal.{Refusal}
+use Rattle.prelude.specs.Refusals.{number_of}
 use Rattle.forming.specs.Adding.{adding}
 use Rattle.forming.specs.Frames.{agenda_words}
 use Rattle.forming.specs.Rows.{rows_words, RowsAre, Entered}
@@ -33,8 +33,8 @@ TellsWide table p s at whole r = (vs : List Value) → Values s at whole vs → 
 
 -- ---- the matches of one value, and of all members
 
-pub record OneHeld (table index : List ℕ) (p : ℕ) (s : List ℕ) (at : ℕ) (a rows order : List ℕ) (n : ℕ) : Type 0 where
-  pub readable : Readable table index p
+pub record OneHeld (table : List ℕ) (p : ℕ) (s : List ℕ) (at : ℕ) (a rows order : List ℕ) (n : ℕ) : Type 0 where
+  pub readable : Readable table p
   pub short : length s ≤ 65536
   pub value : Value
   pub here : At s at value
@@ -43,13 +43,13 @@ pub record OneHeld (table index : List ℕ) (p : ℕ) (s : List ℕ) (at : ℕ) 
   pub bindings : List Binding
   pub rows_are : RowsAre s rows order n bindings
 
-pub record OneFormed (table : List ℕ) (p : ℕ) (s : List ℕ) (at : ℕ) (a b rows order : List ℕ) (n : ℕ) (rows' order' : List ℕ) (r : Formed) : Type 0 where
+pub record OneFormed (table : List ℕ) (p : ℕ) (s : List ℕ) (at : ℕ) (a b rows order : List ℕ) (n : ℕ) (rows' order' : List ℕ) (r : Result ℕ Refusal) : Type 0 where
   pub long : length b ≡ length a
   pub right : (v : Value) (bs : List Binding) → At s at v → wide (pattern_at (records table) p) v ≡ false → RowsAre s rows order n bs
       → Entered s rows' order' (adding (matches (pattern_at (records table) p) v) bs) r
 
-pub record AllHeld (table index : List ℕ) (p : ℕ) (s : List ℕ) (from to : ℕ) (a rows order : List ℕ) : Type 0 where
-  pub readable : Readable table index p
+pub record AllHeld (table : List ℕ) (p : ℕ) (s : List ℕ) (from to : ℕ) (a rows order : List ℕ) : Type 0 where
+  pub readable : Readable table p
   pub short : length s ≤ 65536
   pub values : List Value
   pub here : ItemsAt s from to (items_of values)
@@ -58,16 +58,16 @@ pub record AllHeld (table index : List ℕ) (p : ℕ) (s : List ℕ) (from to : 
   pub rows_long : length rows ≡ rows_words
   pub order_long : length order ≡ most_bindings
 
-abbrev pub AllFormed : List ℕ → ℕ → List ℕ → ℕ → ℕ → List ℕ → List ℕ → Formed → Type 0
+abbrev pub AllFormed : List ℕ → ℕ → List ℕ → ℕ → ℕ → List ℕ → List ℕ → Result ℕ Refusal → Type 0
 AllFormed table p s from to rows order r =
     (vs : List Value) → ItemsAt s from to (items_of vs) → exists vs (wide (pattern_at (records table) p)) ≡ false → Entered s rows order (adding (gather vs (matches (pattern_at (records table) p))) []) r
 
 -- The rows are the bindings, or the answer is the refusal.
-abbrev pub TellsRows : List ℕ → List ℕ → List ℕ → Outcome → Formed → Type 0
-TellsRows s rows order (bound bs) (Number n) = RowsAre s rows order n bs
-TellsRows s rows order (bound bs) (Refused k) = ⊥
-TellsRows s rows order (refused j) (Number n) = ⊥
-TellsRows s rows order (refused j) (Refused k) = j ≡ k
+abbrev pub TellsRows : List ℕ → List ℕ → List ℕ → Outcome → Result ℕ Refusal → Type 0
+TellsRows s rows order (bound bs) (Ok n) = RowsAre s rows order n bs
+TellsRows s rows order (bound bs) (Err k) = ⊥
+TellsRows s rows order (refused j) (Ok n) = ⊥
+TellsRows s rows order (refused j) (Err k) = j ≡ number_of k
 
-abbrev pub RowsFormed : List ℕ → ℕ → List ℕ → ℕ → Bool → List ℕ → List ℕ → Formed → Type 0
+abbrev pub RowsFormed : List ℕ → ℕ → List ℕ → ℕ → Bool → List ℕ → List ℕ → Result ℕ Refusal → Type 0
 RowsFormed table p s at whole rows order r = (vs : List Value) → Values s at whole vs → TellsRows s rows order (formed (pattern_at (records table) p) vs) r

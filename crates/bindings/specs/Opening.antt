@@ -1,5 +1,5 @@
 -- A window opened for a plain name or for `-`, and the cursor over rows: what the functions ask and promise each other.
-use Rattle.std.specs.Prelude.{◌≡◌, Bool, List, [], ◌∷◌, map, ℕ, ◌+◌, ◌≤◌, ◌<◌, length, get_or, take}
+use Rattle.std.specs.Prelude.{◌≡◌, Bool, List, [], ◌∷◌, map, ℕ, ◌+◌, ◌≤◌, ◌<◌, length, get_or, take, Result}
 use Rattle.values.specs.Value.{Value}
 use Rattle.values.specs.Place.{Outside}
 use Rattle.tables.specs.Accepted.{records}
@@ -8,7 +8,7 @@ use Rattle.patterns.specs.Binder.{most_bindings, bound, formed}
 use Rattle.patterns.specs.Read.{pattern_at}
 use Rattle.forming.specs.Rows.{rows_words}
 use Rattle.bindings.specs.declared.Cursor.{Cursor}
-use Rattle.bindings.specs.declared.Opened.{Opened}
+use Rattle.prelude.specs.declared.Refusal.{Refusal}
 use Rattle.bindings.specs.Window.{window, Values, Bindable, Windowed, TellsFrom}
 use Rattle.bindings.specs.Filling.{row_words, NamesAre}
 
@@ -50,6 +50,6 @@ pub record LentFrom (table : List ℕ) (p : ℕ) (s : List ℕ) (at : ℕ) (whol
   pub are : Values (take to s) at whole values
   pub low : (bs : List Binding) → formed (pattern_at (records table) p) values ≡ bound bs → k ≤ length bs
 
-pub record FormedFrom (table : List ℕ) (p : ℕ) (s t : List ℕ) (at : ℕ) (whole : Bool) (to k : ℕ) (r : Opened) : Type 0 where
+pub record FormedFrom (table : List ℕ) (p : ℕ) (s t : List ℕ) (at : ℕ) (whole : Bool) (to k : ℕ) (r : Result Cursor Refusal) : Type 0 where
   pub outside : Outside s t to (to + window)
   pub tells : (vs : List Value) → Values (take to s) at whole vs → TellsFrom t to k (formed (pattern_at (records table) p) vs) r

@@ -1,5 +1,5 @@
 -- The bindings of a binder, some of which stand in a window of scratch: what the evaluator asks, and what it is promised.
-use Rattle.std.specs.Prelude.{◌≡◌, Bool, true, false, List, [], ◌∷◌, ℕ, ◌+◌, ◌-◌, ◌*◌, ◌/◌, ◌≤◌, ◌<◌, length, get_or, take}
+use Rattle.std.specs.Prelude.{◌≡◌, Bool, true, false, List, [], ◌∷◌, ℕ, ◌+◌, ◌-◌, ◌*◌, ◌/◌, ◌≤◌, ◌<◌, length, get_or, take, Result, Ok, Err}
 use Rattle.integers.specs.Bytes.{bits32}
 use Rattle.values.specs.Value.{Value}
 use Rattle.values.specs.Place.{Outside}
@@ -12,8 +12,8 @@ use Rattle.parts.specs.Part.{PartIs}
 use Rattle.parts.specs.Word.{unpacked}
 use Rattle.parts.specs.declared.words.Env.{Env}
 use Rattle.bindings.specs.declared.Cursor.{Cursor}
-use Rattle.bindings.specs.declared.Opened.{Opened}
-use Rattle.bindings.specs.declared.Opened.TheVariants.{Bound, Refused}
+use Rattle.prelude.specs.declared.Refusal.{Refusal}
+use Rattle.prelude.specs.Refusals.{number_of}
 use Rattle.bindings.specs.Forming.{Values, Bindable}
 pub use Rattle.bindings.specs.Forming.{Values, Bindable}
 
@@ -69,16 +69,16 @@ pub record Lent (s : List ℕ) (at : ℕ) (whole : Bool) (to : ℕ) : Type 0 whe
   pub short : length s ≤ 65536
 
 -- What is answered where the bindings from k on come first in the window.
-abbrev pub TellsFrom : List ℕ → ℕ → ℕ → Formed → Opened → Type 0
-TellsFrom t to k (bound bs) (Bound c) = Windowed t to c bs × (c.from ≡ k)
-TellsFrom t to k (bound bs) (Refused j) = ⊥
-TellsFrom t to k (refused i) (Bound c) = ⊥
-TellsFrom t to k (refused i) (Refused j) = i ≡ j
+abbrev pub TellsFrom : List ℕ → ℕ → ℕ → Formed → Result Cursor Refusal → Type 0
+TellsFrom t to k (bound bs) (Ok c) = Windowed t to c bs × (c.from ≡ k)
+TellsFrom t to k (bound bs) (Err j) = ⊥
+TellsFrom t to k (refused i) (Ok c) = ⊥
+TellsFrom t to k (refused i) (Err j) = i ≡ number_of j
 
-abbrev pub TellsOpened : List ℕ → ℕ → Formed → Opened → Type 0
+abbrev pub TellsOpened : List ℕ → ℕ → Formed → Result Cursor Refusal → Type 0
 TellsOpened t to = TellsFrom t to 0
 
-pub record OpenedAs (table : List ℕ) (p : ℕ) (s t : List ℕ) (at : ℕ) (whole : Bool) (to : ℕ) (r : Opened) : Type 0 where
+pub record OpenedAs (table : List ℕ) (p : ℕ) (s t : List ℕ) (at : ℕ) (whole : Bool) (to : ℕ) (r : Result Cursor Refusal) : Type 0 where
   pub outside : Outside s t to (to + window)
   pub tells : (vs : List Value) → Values (take to s) at whole vs → TellsOpened t to (formed (pattern_at (records table) p) vs) r
 

@@ -32,11 +32,9 @@ pub fn names_of(rows: &Rows, r: usize) -> Names
     requires { RowHeld rows.now r }
     ensures { NamesAre (row_words rows.now r) result }
 {
-    let mut x = Env::NAMES;
     let mut mask = 0;
     let mut width = 0;
-    while 0 < x {
-        x -= 1;
+    for x in (0..Env::NAMES).rev() {
         mask *= 2;
         if rows[Env::NAMES * r + x] != 0 {
             mask += 1;
@@ -51,6 +49,7 @@ fn put_row(s: &mut [u8], out: usize, rows: &Rows, r: usize, mask: usize)
     requires { RowPuttable s.old out rows.now r mask }
     ensures { RowPut s.old s.new out rows.now r mask }
 {
+    // Counted by hand: it ends with the highest bit, mostly long before the last name.
     let mut left = mask;
     let mut at = out;
     let mut x = 0;
@@ -72,16 +71,14 @@ pub fn fill(s: &mut [u8], to: usize, rows: &Rows, order: &RowOrder, c: Cursor)
 {
     let step = 4 * c.width;
     let end = to + Cursor::WINDOW;
-    let mut j = c.from;
     let mut out = to;
-    while j < c.count {
+    for j in c.from..c.count {
         if end < out + step {
             return;
         }
         let r = order[j] as usize;
         put_row(s, out, rows, r, c.names);
         out += step;
-        j += 1;
     }
 }
 
@@ -90,13 +87,7 @@ pub fn one_name(x: usize) -> usize
     requires { x < names }
     ensures { OneName x result }
 {
-    let mut mask = 1;
-    let mut i = 0;
-    while i < x {
-        mask *= 2;
-        i += 1;
-    }
-    mask
+    1 << x
 }
 
 // Writes a word for each item from a place up to another, and gives how many there are.

@@ -10,10 +10,12 @@ ghost use Rattle.patterns.specs.Read.{Readable};
 ghost use Rattle.bindings.specs.Window.{Bindable, Lent, OpenedAs, Reachable, Reached, Underneath, UnderBinding};
 ghost use Rattle.bindings.specs.Opening.{PlainHeld, PlainOpened, AnyOpened, CursorHeld, CursorOver, LentFrom, FormedFrom};
 
-use forming::{Formed, RowOrder, Rows};
+use forming::{RowOrder, Rows};
 use integers::bytes::read16;
 use parts::words::Env;
-use tables::{Index, kinds};
+use prelude::Refusal;
+use tables::kinds;
+use tables::sheet::Sheet;
 use values::Value;
 
 // How many bindings there are; the names that they give values, as a mask, and how many these are; and the first binding in the window.
@@ -28,13 +30,14 @@ pub struct Cursor {
 impl Cursor {
     // The bytes of a window.
     pub const WINDOW: usize = 512;
-}
 
-// The bindings, or refusal 29 or 30.
-#[derive(Clone, Copy)]
-pub enum Opened {
-    Bound(Cursor),
-    Refused(usize),
+    // No bindings.
+    const NONE: Cursor = Cursor {
+        count: 0,
+        names: 0,
+        width: 0,
+        from: 0,
+    };
 }
 
 // The word at a place.
@@ -71,19 +74,9 @@ fn open_any(s: &[u8], at: usize, whole: bool) -> Cursor
 {
     let n = values::length_of(s, at);
     let from = forms::first_at(at, whole);
-    if from < at + n {
-        return Cursor {
-            count: 1,
-            names: 0,
-            width: 0,
-            from: 0,
-        };
-    }
     Cursor {
-        count: 0,
-        names: 0,
-        width: 0,
-        from: 0,
+        count: usize::from(from < at + n),
+        ..Cursor::NONE
     }
 }
 
@@ -93,12 +86,7 @@ fn cursor_over(rows: &Rows, order: &RowOrder, n: usize, k: usize) -> Cursor
     ensures { CursorOver rows.now order.now n k result }
 {
     if n == 0 {
-        return Cursor {
-            count: 0,
-            names: 0,
-            width: 0,
-            from: 0,
-        };
+        return Cursor::NONE;
     }
     let r = order[0] as usize;
     let names = filling::names_of(rows, r);
@@ -111,65 +99,55 @@ fn cursor_over(rows: &Rows, order: &RowOrder, n: usize, k: usize) -> Cursor
 }
 
 // The bindings of a pattern over the members of the set at a place, or over the one value there, with the first of them in the window from `to`
-// on; or 29 or 30.
+// on; or too large to split, or too many.
 pub fn open(
-    table: &[u8],
-    index: &Index,
+    sheet: &Sheet,
     p: usize,
     s: &mut [u8],
     at: usize,
     whole: bool,
     to: usize,
-) -> Opened
-    requires readable { Readable table.now index.now p }
+) -> Result<Cursor, Refusal>
+    requires readable { Readable sheet.now p }
     requires lent { Lent s.old at whole to }
-    ensures { OpenedAs table.now p s.old s.new at whole to result }
+    ensures { OpenedAs sheet.now p s.old s.new at whole to result }
 {
-    let kind = tables::reading::kind(table, index, p);
+    let kind = sheet.kind(p);
     if kind == kinds::NAME_PATTERN {
-        let x = tables::reading::field(table, index, p, 0);
-        let c = open_plain(s, at, whole, to, x);
-        return Opened::Bound(c);
+        let x = sheet.field(p, 0);
+        return Ok(open_plain(s, at, whole, to, x));
     }
     if kind == kinds::ANY_PATTERN {
-        let c = open_any(s, at, whole);
-        return Opened::Bound(c);
+        return Ok(open_any(s, at, whole));
     }
-    form_from(table, index, p, s, at, whole, to, 0)
+    form_from(sheet, p, s, at, whole, to, 0)
 }
 
 // The bindings of any pattern, all formed in one pass, with those from binding k on in the window.
 fn form_from(
-    table: &[u8],
-    index: &Index,
+    sheet: &Sheet,
     p: usize,
     s: &mut [u8],
     at: usize,
     whole: bool,
     to: usize,
     k: usize,
-) -> Opened
-    requires readable { Readable table.now index.now p }
-    requires lent_from { LentFrom table.now p s.old at whole to k }
-    ensures { FormedFrom table.now p s.old s.new at whole to k result }
+) -> Result<Cursor, Refusal>
+    requires readable { Readable sheet.now p }
+    requires lent_from { LentFrom sheet.now p s.old at whole to k }
+    ensures { FormedFrom sheet.now p s.old s.new at whole to k result }
 {
     let mut rows = [0u32; forming::ROWS_WORDS];
     let mut order = [0u8; Value::BINDINGS];
-    let r = forms::form_rows(table, index, p, &s[0..to], at, whole, &mut rows, &mut order);
-    match r {
-        Formed::Refused(j) => Opened::Refused(j),
-        Formed::Number(n) => {
-            let c = cursor_over(&rows, &order, n, k);
-            filling::fill(s, to, &rows, &order, c);
-            Opened::Bound(c)
-        }
-    }
+    let n = forms::form_rows(sheet, p, &s[0..to], at, whole, &mut rows, &mut order)?;
+    let c = cursor_over(&rows, &order, n, k);
+    filling::fill(s, to, &rows, &order, c);
+    Ok(c)
 }
 
 // Binding k in the window: the window is filled again from it on, unless it is there.
 pub fn reach(
-    table: &[u8],
-    index: &Index,
+    sheet: &Sheet,
     p: usize,
     s: &mut [u8],
     at: usize,
@@ -178,20 +156,14 @@ pub fn reach(
     cursor: Cursor,
     k: usize,
 ) -> Cursor
-    requires readable { Readable table.now index.now p }
-    requires reachable { Reachable table.now p s.old at whole to cursor k }
-    ensures { Reached table.now p s.old s.new at whole to cursor k result }
+    requires readable { Readable sheet.now p }
+    requires reachable { Reachable sheet.now p s.old at whole to cursor k }
+    ensures { Reached sheet.now p s.old s.new at whole to cursor k result }
 {
-    if cursor.from <= k {
-        if 4 * (cursor.width * (k - cursor.from) + cursor.width) <= Cursor::WINDOW {
-            return cursor;
-        }
+    if cursor.from <= k && 4 * (cursor.width * (k - cursor.from) + cursor.width) <= Cursor::WINDOW {
+        return cursor;
     }
-    let r = form_from(table, index, p, s, at, whole, to, k);
-    match r {
-        Opened::Refused(j) => cursor,
-        Opened::Bound(c) => c,
-    }
+    form_from(sheet, p, s, at, whole, to, k).unwrap_or(cursor)
 }
 
 // What each name stands for under binding k, which is in the window.
@@ -199,6 +171,7 @@ pub fn under(s: &[u8], to: usize, cursor: Cursor, k: usize, words: &mut [u32; En
     requires { Underneath s.now to cursor k (record { words = words.now }) }
     ensures { UnderBinding s.now to cursor k (record { words = words.old }) (record { words = words.new }) }
 {
+    // Counted by hand: it ends with the highest bit, mostly long before the last name.
     let mut at = to + 4 * (cursor.width * (k - cursor.from));
     let mut left = cursor.names;
     let mut x = 0;

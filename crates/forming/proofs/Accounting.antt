@@ -71,16 +71,16 @@ module _ (s found rows : List ℕ) (n : ℕ) (rows' : List ℕ) (n' : ℕ) (h : 
 -- ---- one of the levels
 
 -- its frame, its rows, and what is above it
-abbrev pub LevelAt : List ℕ → List ℕ → List ℕ → List ℕ → List ℕ → List ℕ → ℕ → List Binding → List Binding → ℕ → Type 0
-LevelAt table index s a frames rows n entered more j = (l : Level) × LevelIs table index s a j (frame_at frames j) l × RowsOf s rows n entered l × ((c : Binding) → In c more → In c l.done)
+abbrev pub LevelAt : List ℕ → List ℕ → List ℕ → List ℕ → List ℕ → ℕ → List Binding → List Binding → ℕ → Type 0
+LevelAt table s a frames rows n entered more j = (l : Level) × LevelIs table s a j (frame_at frames j) l × RowsOf s rows n entered l × ((c : Binding) → In c more → In c l.done)
 
-module _ (table index s a frames rows : List ℕ) (n : ℕ) (entered more : List Binding) (hit : ℕ) where
-  pub level_at : (all pending : List Binding) (high : ℕ) (found : List ℕ) (ls : List Level) → StackIs table index s a frames high found ls → Accounted all pending entered hit ls → Traced s rows n entered ls → ((c : Binding) → In c more → In c all) → (j : ℕ) → j < length ls
-      → LevelAt table index s a frames rows n entered more j
+module _ (table s a frames rows : List ℕ) (n : ℕ) (entered more : List Binding) (hit : ℕ) where
+  pub level_at : (all pending : List Binding) (high : ℕ) (found : List ℕ) (ls : List Level) → StackIs table s a frames high found ls → Accounted all pending entered hit ls → Traced s rows n entered ls → ((c : Binding) → In c more → In c all) → (j : ℕ) → j < length ls
+      → LevelAt table s a frames rows n entered more j
   level_at all pending high found [] st ac tr f j m = absurd (omega arith)
   level_at all pending high found (l ∷ ls) (x, u, g, w) (p, q, r, t) (v, vs) f j m =
       go (ℕ_discrete j (length ls)) (λ k. level_at (l.done ++ l.due) (pending ++ l.due) (frame_at frames (length ls)).top l.words ls w t vs (λ c i. in_left c l.done l.due (p c (f c i))) j k)
     where
-      go : Dec (j ≡ length ls) → (j < length ls → LevelAt table index s a frames rows n entered more j) → LevelAt table index s a frames rows n entered more j
-      go (yes e) on = (l, subst (λ (i : ℕ). LevelIs table index s a i (frame_at frames i) l) (sym e) x, v, λ c i. p c (f c i))
+      go : Dec (j ≡ length ls) → (j < length ls → LevelAt table s a frames rows n entered more j) → LevelAt table s a frames rows n entered more j
+      go (yes e) on = (l, subst (λ (i : ℕ). LevelIs table s a i (frame_at frames i) l) (sym e) x, v, λ c i. p c (f c i))
       go (no e) on = on (omega (arith, e))

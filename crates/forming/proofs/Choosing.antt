@@ -1,4 +1,5 @@
 -- A whole set or map that is to be split, as a choice of all its members or entries.
+use Rattle.parts.specs.declared.How.TheVariants.{Whole, Units}
 use mathlib.Core.Path.{◌≡◌, refl, sym, ap, subst, ◌∙◌}
 use mathlib.Core.Bool.{true}
 use mathlib.Core.Logic.{inl, inr}
@@ -42,7 +43,7 @@ module _ (s : List ℕ) (c word ways : ℕ) (h : WordMet s c word ways) where
           (w.units, w.is, ltb-false most_split (length w.units) (sym l ∙ h.narrow), omega (arith, n, h.met, h.some))
       go (no f) = absurd (omega (arith, h.some, h.met, ap length (none_meets c h.count h.value (contents_other K h.value f)).1))
 
-  pub all_units : is_split c ≡ true → (p : Part) → p ≡ unpacked word → p.how ≡ 1 → (m : ℕ) → m ≡ ways + 1 → PartIs s (record { at = p.at; extent = m; how = 2 }) h.value
+  pub all_units : is_split c ≡ true → (p : Part) → p ≡ unpacked word → p.how ≡ Whole → (m : ℕ) → m ≡ ways + 1 → PartIs s (record { at = p.at; extent = m; how = Units }) h.value
   all_units u p pe e m f =
       let (us, v, few, w) = is_few u in
       let here : At s p.at (collection K (items_of (items_in K us))) = subst (At s p.at) v (whole_of e (subst (λ (q : Part). PartIs s q h.value) (sym pe) h.here)) in

@@ -1,21 +1,25 @@
 -- Frames as bytes of an array, and masks of the names that have a value.
 use mathlib.Core.Path.{◌≡◌, refl, sym, ap, subst, ◌∙◌}
-use mathlib.Core.Bool.{Bool, true, false, cond}
+use mathlib.Core.Bool.{Bool, true, false, not, cond}
 use mathlib.Core.Logic.{inl, inr}
 use mathlib.Core.List.{List, [], ◌∷◌}
-use Prim.Native.Nat.{ℕ, ◌+◌, ◌*◌, ◌/◌, ◌%◌, ◌^◌, ◌≤◌, ◌<◌}
+use Prim.Native.Nat.{ℕ, ◌+◌, ◌-◌, ◌*◌, ◌/◌, ◌%◌, ◌^◌, ◌≤◌, ◌<◌}
 use native.Mathlib.Decide.{ℕ_discrete}
 use native.Mathlib.Numerals.{add-one}
 use native.Mathlib.Nat.{pow-suc}
 use native.Mathlib.Omega.{arith}
 use lib.Dec.{eqb}
-use lib.ListN.{length, get_or, set, drop, length-drop, length-set, drop_of_length-le}
+use lib.ListN.{length, get_or, set, take, drop, length-append, length-drop, length-set, drop_of_length-le}
 use lib.Seq.{drop-cons, ext_get_or, get_or-take, get_or-drop, get_or-set_same, get_or-set_other, length-take-le}
 use lib.Pow.{pow_mono}
 use borrow.Author.Tests.{eq-eqb, ne_eqb}
 use Rattle.matching.specs.Leaf.{Grown}
 use Rattle.forming.specs.declared.frames.Frame.{Frame}
-use Rattle.forming.specs.Frames.{KeptBelow, flag_byte, frame_of, slot_at, frame_at, onto, FrameFits, SlotPut, Stored, Advanced, has_word, mask_of, Cleared}
+use Rattle.forming.specs.Frames.{KeptBelow, frame_of, slot_at, frame_at, onto, SlotPut, Stored, Advanced, has_word, mask_of, Cleared}
+use mir.Val.{bool_byte}
+use borrow.Rule.Slice.PartMut.{put_mid}
+use Rattle.std.proofs.lemmas.Slice.{take-put_mid_below, take-put_mid, drop-put_mid, between-put_mid}
+use Rattle.std.proofs.lemmas.List.{take-append-drop}
 
 -- ---- bytes
 
@@ -25,66 +29,38 @@ slot_at_lem a i j l = get_or-take 18 (drop (18 * i) a) j 0 l ∙ get_or-drop (18
 slot_long : (a : List ℕ) (i : ℕ) → i < 100 → length a ≡ 1800 → length (slot_at a i) ≡ 18
 slot_long a i l e = length-take-le 18 (drop (18 * i) a) (omega (arith, length-drop (18 * i) a))
 
--- the bytes before j are read
-pub record SlotRead (a : List ℕ) (i : ℕ) (bytes : List ℕ) (j : ℕ) : Type 0 where
-  pub long : length bytes ≡ 18
-  pub same : (k : ℕ) → k < j → get_or bytes k 0 ≡ get_or a (18 * i + k) 0
+module _ (a k : ℕ) (xs ys : List ℕ) where
+  pub put_below : a ≤ length xs → (j : ℕ) → j < a → get_or (put_mid a k xs ys) j 0 ≡ get_or xs j 0
+  put_below l j m =
+      sym (get_or-take a (put_mid a k xs ys) j 0 m) ∙ ap (λ (zs : List ℕ). get_or zs j 0) (take-put_mid_below a k xs ys a (omega arith) l) ∙ get_or-take a xs j 0 m
 
-pub read_start : (a : List ℕ) (i : ℕ) (bytes : List ℕ) → length bytes ≡ 18 → SlotRead a i bytes 0
-read_start a i bytes e = record { long = e; same = λ k l. absurd (omega arith) }
+  put_part : a ≤ length xs → length ys ≡ k → take k (drop a (put_mid a k xs ys)) ≡ ys
+  put_part l e =
+      let n : k ≡ a + k - a = omega arith in
+      ap (λ (m : ℕ). take m (drop a (put_mid a k xs ys))) n ∙ between-put_mid a k xs ys (a + k) l (e ∙ n)
 
-pub read_more : (a : List ℕ) (i : ℕ) (bytes : List ℕ) (j b : ℕ) → j < 18 → b ≡ get_or a (18 * i + j) 0 → SlotRead a i bytes j → SlotRead a i (set bytes j b) (j + 1)
-read_more a i bytes j b l e h = record { long = length-set bytes j b ∙ h.long; same = λ k m. go k m (ℕ_discrete k j) }
-  where
-    go : (k : ℕ) → k < j + 1 → Dec (k ≡ j) → get_or (set bytes j b) k 0 ≡ get_or a (18 * i + k) 0
-    go k m (yes q) = rw q (get_or-set_same bytes j b 0 (omega (arith, h.long)) ∙ e)
-    go k m (no q) = get_or-set_other bytes j k b 0 q ∙ h.same k (omega arith)
+  pub put_within : a ≤ length xs → length ys ≡ k → (j : ℕ) → j < k → get_or (put_mid a k xs ys) (a + j) 0 ≡ get_or ys j 0
+  put_within l e j m =
+      sym (get_or-take k (drop a (put_mid a k xs ys)) j 0 m ∙ get_or-drop a (put_mid a k xs ys) j 0) ∙ ap (λ (zs : List ℕ). get_or zs j 0) (put_part l e)
 
-pub read_end : (a : List ℕ) (i : ℕ) (bytes : List ℕ) (j : ℕ) → i < 100 → length a ≡ 1800 → 18 ≤ j → SlotRead a i bytes j → bytes ≡ slot_at a i
-read_end a i bytes j l e m h =
-    ext_get_or 0 bytes (slot_at a i) (h.long ∙ sym (slot_long a i l e)) (λ k o. h.same k (omega (arith, h.long)) ∙ sym (slot_at_lem a i k (omega (arith, h.long))))
+  pub put_length : a + k ≤ length xs → length ys ≡ k → length (put_mid a k xs ys) ≡ length xs
+  put_length l e =
+      let t = ap length (take-put_mid a k xs ys (a + k) (ap (λ (n : ℕ). a + n) (sym e)) (omega arith)) ∙ length-append (take a xs) ys in
+      let d = ap length (drop-put_mid a k xs ys (a + k) (omega arith) (omega arith) e) in
+      let p = ap length (sym (take-append-drop (a + k) (put_mid a k xs ys))) ∙ length-append (take (a + k) (put_mid a k xs ys)) (drop (a + k) (put_mid a k xs ys)) in
+      omega (arith, t, d, p, e, length-take-le a xs (omega arith), length-drop (a + k) xs)
 
--- the bytes before j are written
-pub record SlotWritten (a : List ℕ) (i : ℕ) (bytes : List ℕ) (b : List ℕ) (j : ℕ) : Type 0 where
-  pub same : (k : ℕ) → k < j → get_or b (18 * i + k) 0 ≡ get_or bytes k 0
-  pub kept : KeptBelow a b (18 * i)
-  pub long : length b ≡ length a
-
-pub written_start : (a : List ℕ) (i : ℕ) (bytes : List ℕ) → SlotWritten a i bytes a 0
-written_start a i bytes = record { same = λ k l. absurd (omega arith); kept = λ j l. refl; long = refl }
-
-pub written_more : (a : List ℕ) (i : ℕ) (bytes b : List ℕ) (j x : ℕ) → i < 100 → length a ≡ 1800 → j < 18 → x ≡ get_or bytes j 0 → SlotWritten a i bytes b j → SlotWritten a i bytes (set b (18 * i + j) x) (j + 1)
-written_more a i bytes b j x l e m q h = record {
-  same = λ k o. go k o (ℕ_discrete k j);
-  kept = λ k o. get_or-set_other b (18 * i + j) k x 0 (λ d. absurd (omega arith)) ∙ h.kept k o;
-  long = length-set b (18 * i + j) x ∙ h.long;
+pub slot_written : (a : List ℕ) (i k : ℕ) (bytes ys : List ℕ) → i < 100 → length a ≡ 1800 → length bytes ≡ 18 → k ≡ 18 → ys ≡ bytes → SlotPut a i bytes (put_mid (18 * i) k a ys)
+slot_written a i k bytes ys l e n kn y = record {
+  here = ap (λ (m : ℕ). take m (drop (18 * i) (put_mid (18 * i) k a ys))) (sym kn) ∙ put_part (18 * i) k a ys (omega arith) sized ∙ y;
+  kept = put_below (18 * i) k a ys (omega arith);
+  long = put_length (18 * i) k a ys (omega (arith, kn)) sized;
 }
   where
-    go : (k : ℕ) → k < j + 1 → Dec (k ≡ j) → get_or (set b (18 * i + j) x) (18 * i + k) 0 ≡ get_or bytes k 0
-    go k o (yes d) = rw d (get_or-set_same b (18 * i + j) x 0 (omega (arith, h.long)) ∙ q)
-    go k o (no d) = get_or-set_other b (18 * i + j) (18 * i + k) x 0 (λ z. d (omega arith)) ∙ h.same k (omega arith)
-
-pub written_end : (a : List ℕ) (i : ℕ) (bytes b : List ℕ) (j : ℕ) → i < 100 → length a ≡ 1800 → length bytes ≡ 18 → 18 ≤ j → SlotWritten a i bytes b j → SlotPut a i bytes b
-written_end a i bytes b j l e n m h = record {
-  here =
-      let long = slot_long b i l (h.long ∙ e) in
-      ext_get_or 0 (slot_at b i) bytes (long ∙ sym n) (λ k o. slot_at_lem b i k (omega (arith, long)) ∙ h.same k (omega (arith, long)));
-  kept = h.kept;
-  long = h.long;
-}
+    sized : length ys ≡ k
+    sized = ap length y ∙ n ∙ sym kn
 
 -- ---- frames
-
-bit_told : (b : Bool) → eqb (flag_byte b) 1 ≡ b
-bit_told true = refl
-bit_told false = refl
-
-mask_told : (m : ℕ) → m < 65536 → m % 256 + 256 * (m / 256 % 256) ≡ m
-mask_told m l = omega arith
-
-pub packed : (f : Frame) → FrameFits f → (o b l r k : ℕ) → o ≡ flag_byte f.once → b ≡ flag_byte f.sizes.bound → l ≡ flag_byte f.sizes.left.more → r ≡ flag_byte f.sizes.right.more → k ≡ flag_byte f.asks
-    → frame_of (f.p ∷ f.at ∷ f.next ∷ f.top ∷ f.way ∷ f.seen ∷ f.ways ∷ f.mask % 256 ∷ f.mask / 256 % 256 ∷ o ∷ b ∷ f.sizes.left.least ∷ l ∷ f.sizes.right.least ∷ r ∷ f.tests ∷ f.since ∷ k ∷ []) ≡ f
-packed f h o b l r k oe be le re ke = rw (oe, be, le, re, ke) (rw (mask_told f.mask h.mask_small, bit_told f.once, bit_told f.sizes.bound, bit_told f.sizes.left.more, bit_told f.sizes.right.more, bit_told f.asks) refl)
 
 pub stored : (a : List ℕ) (i : ℕ) (f : Frame) (bytes b : List ℕ) → frame_of bytes ≡ f → SlotPut a i bytes b → Stored a i f b
 stored a i f bytes b e h = record { here = ap frame_of h.here ∙ e; kept = h.kept; long = h.long }
@@ -168,6 +144,17 @@ has_one w f = ap (λ (b : Bool). cond b 0 1) (ne_eqb w 0 f)
 has_none : (w : ℕ) → w ≡ 0 → has_word w ≡ 0
 has_none w e = ap (λ (b : Bool). cond b 0 1) (eq-eqb w 0 e)
 
+pub byte_has : (w : ℕ) → bool_byte (not (eqb w 0)) ≡ has_word w
+byte_has w = go (eqb w 0)
+  where
+    go : (b : Bool) → bool_byte (not b) ≡ cond b 0 1
+    go true = refl
+    go false = refl
+
+pub byte_low : (b : Bool) → bool_byte b < 2
+byte_low true = omega arith
+byte_low false = omega arith
+
 -- the names from x on are in the mask
 pub record MaskFrom (ws : List ℕ) (mask x : ℕ) : Type 0 where
   pub right : mask ≡ mask_of (drop x ws)
@@ -179,19 +166,11 @@ module _ (ws : List ℕ) (n : length ws ≡ 16) where
   unfolding mask_of
   mask_start = record { right = sym (ap mask_of (drop_of_length-le ws {i = 16} (omega arith))); low = omega arith; within = omega arith }
 
-  mask_more : (mask x y : ℕ) → x ≡ y + 1 → MaskFrom ws mask x → MaskFrom ws (2 * mask + has_word (get_or ws y 0)) y
+  pub mask_more : (mask x y : ℕ) → x ≡ y + 1 → MaskFrom ws mask x → MaskFrom ws (2 * mask + has_word (get_or ws y 0)) y
   mask_more mask x y e h =
       let r : 2 * mask + has_word (get_or ws y 0) ≡ mask_of (drop y ws) =
       ap (λ (m : ℕ). 2 * m + has_word (get_or ws y 0)) (h.right ∙ ap (λ (k : ℕ). mask_of (drop k ws)) e) ∙ sym (mask_here ws y (omega (arith, h.within))) in
       record { right = r; low = omega (arith, r, mask_small (drop y ws) (omega (arith, length-drop y ws))); within = omega (arith, h.within) }
-
-  pub mask_one : (mask x y m : ℕ) → x ≡ y + 1 → (get_or ws y 0 ≡ 0 → ⊥) → m ≡ 2 * mask + 1 → MaskFrom ws mask x → MaskFrom ws m y
-  mask_one mask x y m e f q h = subst (λ (k : ℕ). MaskFrom ws k y) (sym (q ∙ ap (λ (k : ℕ). 2 * mask + k) (sym (has_one (get_or ws y 0) f)))) (mask_more mask x y e h)
-
-  pub mask_none : (mask x y m : ℕ) → x ≡ y + 1 → get_or ws y 0 ≡ 0 → m ≡ 2 * mask → MaskFrom ws mask x → MaskFrom ws m y
-  mask_none mask x y m e f q h =
-      let z : 2 * mask ≡ 2 * mask + has_word (get_or ws y 0) = omega (arith, has_none (get_or ws y 0) f) in
-      subst (λ (k : ℕ). MaskFrom ws k y) (sym (q ∙ z)) (mask_more mask x y e h)
 
   pub mask_end : (mask x : ℕ) → x ≤ 0 → MaskFrom ws mask x → (mask ≡ mask_of ws) × (mask < 65536)
   mask_end mask x l h = let e : x ≡ 0 = omega arith in (h.right ∙ ap (λ (k : ℕ). mask_of (drop k ws)) e, h.low)

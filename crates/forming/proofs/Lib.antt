@@ -1,6 +1,7 @@
 -- What the proofs of the functions need.
 mod Framing
 mod Ranking
+mod Told
 mod Rowing
 mod Pushing
 mod Solving

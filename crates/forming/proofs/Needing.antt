@@ -3,10 +3,9 @@ use mathlib.Core.Path.{◌≡◌, refl, sym, ap, subst, ◌∙◌}
 use mathlib.Core.Bool.{Bool, true, false}
 use mathlib.Core.Logic.{inl, inr, ⊎_elim}
 use mathlib.Core.List.{List, [], ◌∷◌}
-use Prim.Native.Nat.{ℕ, ◌<◌}
-use lib.ListN.{length}
+use Prim.Native.Nat.{◌%◌, ℕ, ◌<◌}
+use lib.ListN.{length, get_or}
 use Rattle.prelude.specs.Membership.{In}
-use Rattle.prelude.proofs.Absurd.{impossible}
 use Rattle.prelude.proofs.Membership.{at_in, map_in}
 use Rattle.values.specs.Value.{Kind, number, Value}
 use Rattle.tables.specs.Record.{named as operands_of, operand}
@@ -15,6 +14,7 @@ use Rattle.tables.specs.Accepted.{records}
 use Rattle.parts.specs.declared.Part.{Part}
 use Rattle.parts.specs.Part.{PartIs, PartHeld}
 use Rattle.parts.specs.Contract.{KindOfPart, HasItem}
+use Rattle.parts.proofs.Packing.{how_none}
 use Rattle.parts.specs.Word.{unpacked}
 use Rattle.parts.proofs.Laws.{of_kind}
 use Rattle.patterns.specs.Binding.{is, Binding, names, only, cell_of}
@@ -29,7 +29,7 @@ use Rattle.matching.specs.Leaf.{Standing}
 use Rattle.matching.specs.Node.{is_split, inner_of}
 use Rattle.matching.proofs.Counting.{split_kind}
 use Rattle.matching.proofs.Records.{by_record}
-use Rattle.forming.specs.declared.needs.Asked.TheVariants.{Nothing, Had, Lacked}
+use Rattle.std.specs.Prelude.{Option, Some}
 use Rattle.forming.specs.Needs.{Unmatched, Lacks, NoMatch, NoneMatch, WordAt}
 use Rattle.forming.specs.Sizes.{Splits, enumeration_of}
 use Rattle.forming.proofs.Compatible.{joined_left, joined_right, compatible_within}
@@ -88,35 +88,32 @@ right_half b k u p q vs f ts g a (us, ls, rs, c, d, e, s, m, n, j) h =
 
 -- ---- word_at
 
-pub named_part : (table : List ℕ) (q : ℕ) (s found : List ℕ) → Standing s found → (word : ℕ) → WordAt table q found word → (word ≡ 0 → ⊥) → (value : Part) → value ≡ unpacked word → PartHeld s value
-named_part table q s found (b, st) word k f value e =
-    let (x, l, pe, w) = k f in
-    ⊎_elim (λ n. absurd (f (w ∙ st.blank x l n.0))) (λ (v, d, g). record { value = v; here = subst (λ (z : Part). PartIs s z v) (sym (e ∙ ap unpacked w)) g }) (st.cells x l)
+pub named_part : (table : List ℕ) (q : ℕ) (s found : List ℕ) → Standing s found → (r : Option ℕ) → WordAt table q found r → (word : ℕ) → r ≡ Some word → (value : Part) → value ≡ unpacked word → PartHeld s value
+named_part table q s found (b, st) r k word re value e =
+    let (f, x, l, pe, w) = k word re in
+    ⊎_elim (λ n. absurd (f (w ∙ st.blank x l (how_none (get_or found x 0 % 4) n.0)))) (λ (v, d, g). record { value = v; here = subst (λ (z : Part). PartIs s z v) (sym (e ∙ ap unpacked w)) g }) (st.cells x l)
+
+pub word_told : (table : List ℕ) (p : ℕ) (found : List ℕ) (x : ℕ) → x < names → pattern_at (records table) p ≡ name x → (get_or found x 0 ≡ 0 → ⊥) → WordAt table p found (Some (get_or found x 0))
+word_told table p found x l n f w e = let q : get_or found x 0 ≡ w = cc in ((λ z. f (q ∙ z)), x, l, n, sym q)
 
 -- ---- what the parts ask
 
-pub nothing_told : {A : Type 0} → Nothing ≡ Lacked → A
-nothing_told e = impossible cc
-
-pub had_told : {A : Type 0} → Had ≡ Lacked → A
-had_told e = impossible cc
-
-module _ (table index : List ℕ) (p : ℕ) (h : Readable table index p) (s : List ℕ) (part : Part) (found : List ℕ) where
-  pub names_lack : (c : ℕ) → Splits c → kind_at (records table) p ≡ enumeration_of c → (i : ℕ) → i < length (operands_of (record_at (records table) p)) → (q : ℕ) → q ≡ operand (record_at (records table) p) i → (word : ℕ) → WordAt table q found word → (word ≡ 0 → ⊥)
+module _ (table : List ℕ) (p : ℕ) (h : Readable table p) (s : List ℕ) (part : Part) (found : List ℕ) where
+  pub names_lack : (c : ℕ) → Splits c → kind_at (records table) p ≡ enumeration_of c → (i : ℕ) → i < length (operands_of (record_at (records table) p)) → (q : ℕ) → q ≡ operand (record_at (records table) p) i → (r : Option ℕ) → WordAt table q found r → (word : ℕ) → r ≡ Some word
       → (value : Part) → value ≡ unpacked word → (t : Bool) → HasItem s part value t → t ≡ false → NoneMatch table p c s part found
-  names_lack c u e i l q qe word k f value ve t m z vs b o st =
-      let (x, xl, pe, we) = k f in
+  names_lack c u e i l q qe r k word re value ve t m z vs b o st =
+      let (f, x, xl, pe, we) = k word re in
       let among : In (name x) (inner_of table p) =
       subst (λ (y : Pattern). In y (inner_of table p)) (ap (pattern_at (records table)) (sym qe) ∙ pe)
       (map_in (operand (record_at (records table) p) i) (pattern_at (records table)) (operands_of (record_at (records table) p)) (at_in (operands_of (record_at (records table) p)) i 0 l)) in
-      subst (λ (y : Pattern). Lacks b (collection_of c) y vs) (sym (by_record table index p h ∙ each_by (record_at (records table) p) (inner_of table p) c e u))
-      (⊎_elim (λ n. absurd (f (we ∙ st.blank x xl n.0)))
+      subst (λ (y : Pattern). Lacks b (collection_of c) y vs) (sym (by_record table p h ∙ each_by (record_at (records table) p) (inner_of table p) c e u))
+      (⊎_elim (λ n. absurd (f (we ∙ st.blank x xl (how_none (get_or found x 0 % 4) n.0))))
       (λ (v, d, g). each_lacks b (collection_of c) (inner_of table p) vs x xl among v d ((m (collection_of c) vs v o (subst (λ (y : Part). PartIs s y v) (sym (ve ∙ ap unpacked we)) g)).1 z))
       (st.cells x xl))
 
   module _ (c : ℕ) (u : is_split c ≡ true) (e : kind_at (records table) p ≡ c) where
     two : pattern_at (records table) p ≡ halved (collection_of c) (pattern_at (records table) (operand (record_at (records table) p) 0)) (pattern_at (records table) (operand (record_at (records table) p) 1))
-    two = is_two table index p h c e (split_kind c u).0
+    two = is_two table p h c e (split_kind c u).0
 
     pub left_lack : (l : ℕ) → l ≡ operand (record_at (records table) p) 0 → NoneMatch table l c s part found → NoneMatch table p c s part found
     left_lack l q f vs b o st =

@@ -159,14 +159,14 @@ halved_by r ps c e u =
 abbrev half : List ℕ → ℕ → ℕ → Pattern
 half table p i = pattern_at (records table) (operand (record_at (records table) p) i)
 
-module _ (table index : List ℕ) (p : ℕ) (h : Readable table index p) where
+module _ (table : List ℕ) (p : ℕ) (h : Readable table p) where
   module _ (c : ℕ) (e : kind_at (records table) p ≡ c) (u : Splits c) where
     pub two_halves : length (operands_of (record_at (records table) p)) ≡ 2
-    two_halves = count_two table index p h (ap is_composed e ∙ splits_composed c u) (ap is_halved e ∙ u)
+    two_halves = count_two table p h (ap is_composed e ∙ splits_composed c u) (ap is_halved e ∙ u)
 
     pub is_two : pattern_at (records table) p ≡ halved (collection_of c) (half table p 0) (half table p 1)
     is_two =
-        by_record table index p h ∙ halved_by (record_at (records table) p) (inner_of table p) c e u
+        by_record table p h ∙ halved_by (record_at (records table) p) (inner_of table p) c e u
         ∙ ap₂ (halved (collection_of c)) (map_at (pattern_at (records table)) (operands_of (record_at (records table) p)) 0 0 any (omega (arith, two_halves)))
         (map_at (pattern_at (records table)) (operands_of (record_at (records table) p)) 1 0 any (omega (arith, two_halves)))
 
@@ -174,10 +174,10 @@ module _ (table index : List ℕ) (p : ℕ) (h : Readable table index p) where
 
   pub all_any : kind_at (records table) p ≡ 33 → TellsAll table p true
   unfolding Matches
-  all_any e t = subst AcceptsAll (sym (by_record table index p h ∙ is_any (record_at (records table) p) (inner_of table p) e)) (record { all = λ vs. refl; only = λ v b m. m })
+  all_any e t = subst AcceptsAll (sym (by_record table p h ∙ is_any (record_at (records table) p) (inner_of table p) e)) (record { all = λ vs. refl; only = λ v b m. m })
 
   pub more_wild : kind_at (records table) p ≡ 33 → (side : ℕ) → TellsMore table p side true
-  more_wild e side t = subst (TakesMore side) (sym (by_record table index p h ∙ is_any (record_at (records table) p) (inner_of table p) e)) (more_any side)
+  more_wild e side t = subst (TakesMore side) (sym (by_record table p h ∙ is_any (record_at (records table) p) (inner_of table p) e)) (more_any side)
 
   pub no_all : TellsAll table p false
   no_all e = true_false (sym e)
@@ -209,12 +209,12 @@ module _ (table index : List ℕ) (p : ℕ) (h : Readable table index p) where
 -- ---- what is left of a pattern
 
 -- The second pattern has the bindings of the first.
-record Same (p q : Pattern) : Type 0 where
+record Equal (p q : Pattern) : Type 0 where
   alike : (v : Value) → Alike (matches p v) (matches q v)
   narrow : (v : Value) → wide p v ≡ false → wide q v ≡ false
   fewer : inner q ≤ inner p
 
-same_left : (l x y : Pattern) → AcceptsAll l → TakesMore 0 (halved sequence x y) → Same (halved sequence l (halved sequence x y)) (halved sequence x y)
+same_left : (l x y : Pattern) → AcceptsAll l → TakesMore 0 (halved sequence x y) → Equal (halved sequence l (halved sequence x y)) (halved sequence x y)
 unfolding inner
 same_left l x y a t = record {
   alike = λ v. alike_of (halved sequence l (halved sequence x y)) (halved sequence x y) v (left_less l (halved sequence x y) a t v) (left_more l (halved sequence x y) a (halved_matched x y) v);
@@ -222,7 +222,7 @@ same_left l x y a t = record {
   fewer = omega arith;
 }
 
-same_right : (r x y : Pattern) → AcceptsAll r → TakesMore 1 (halved sequence x y) → Same (halved sequence (halved sequence x y) r) (halved sequence x y)
+same_right : (r x y : Pattern) → AcceptsAll r → TakesMore 1 (halved sequence x y) → Equal (halved sequence (halved sequence x y) r) (halved sequence x y)
 unfolding inner
 same_right r x y a t = record {
   alike = λ v. alike_of (halved sequence (halved sequence x y) r) (halved sequence x y) v (right_less (halved sequence x y) r a t v) (right_more (halved sequence x y) r a (halved_matched x y) v);
@@ -230,14 +230,14 @@ same_right r x y a t = record {
   fewer = omega arith;
 }
 
-module _ (table index : List ℕ) (p : ℕ) where
-  pub no_spare : (side : ℕ) → TellsSpare table index p side false
+module _ (table : List ℕ) (p : ℕ) where
+  pub no_spare : (side : ℕ) → TellsSpare table p side false
   no_spare side e = true_false (sym e)
 
-  pub spare_left : (side : ℕ) (x : Bool) → TellsSpare table index p side x → x ≡ true → (q : ℕ) → q ≡ operand (record_at (records table) p) (1 - side) → Reduced table index p q
-  spare_left side x h e q d = subst (Reduced table index p) (sym d) (h e)
+  pub spare_left : (side : ℕ) (x : Bool) → TellsSpare table p side x → x ≡ true → (q : ℕ) → q ≡ operand (record_at (records table) p) (1 - side) → Reduced table p q
+  spare_left side x h e q d = subst (Reduced table p) (sym d) (h e)
 
-  pub reduced_then : (q r : ℕ) → Reduced table index p q → Reduced table index q r → Reduced table index p r
+  pub reduced_then : (q r : ℕ) → Reduced table p q → Reduced table q r → Reduced table p r
   reduced_then q r a b = record {
     composed = b.composed;
     low = omega (arith, a.low, b.low);
@@ -246,34 +246,34 @@ module _ (table index : List ℕ) (p : ℕ) where
     fewer = omega (arith, a.fewer, b.fewer);
   }
 
-  module _ (h : Readable table index p) (e : kind_at (records table) p ≡ 40) where
+  module _ (h : Readable table p) (e : kind_at (records table) p ≡ 40) where
     abbrev part : ℕ → ℕ
     part i = operand (record_at (records table) p) i
 
     -- one half is left
-    left_with : (q : ℕ) → Readable table index q → q < p → kind_at (records table) q ≡ 40 → Same (pattern_at (records table) p) (pattern_at (records table) q) → Reduced table index p q
+    left_with : (q : ℕ) → Readable table q → q < p → kind_at (records table) q ≡ 40 → Equal (pattern_at (records table) p) (pattern_at (records table) q) → Reduced table p q
     left_with q i l k s = record { composed = record { readable = i; composed = concatenation_composed k }; low = omega arith; alike = s.alike; narrow = s.narrow; fewer = s.fewer }
 
-    pub spare_told : (side : ℕ) → side < 2 → (a : ℕ) → a ≡ part side → (x : Bool) → TellsAll table a x → x ≡ true → (q : ℕ) → q ≡ part (1 - side) → Readable table index q × (q < p) → kind_at (records table) q ≡ 40
-        → (y : Bool) → TellsMore table q side y → TellsSpare table index p side y
+    pub spare_told : (side : ℕ) → side < 2 → (a : ℕ) → a ≡ part side → (x : Bool) → TellsAll table a x → x ≡ true → (q : ℕ) → q ≡ part (1 - side) → Readable table q × (q < p) → kind_at (records table) q ≡ 40
+        → (y : Bool) → TellsMore table q side y → TellsSpare table p side y
     spare_told side s a ea x all ex q eq (i, l) k y more ey =
-        subst (Reduced table index p) eq (left_with q i l k (same side s (subst (λ (n : ℕ). AcceptsAll (pattern_at (records table) n)) ea (all ex)) eq (more ey)))
+        subst (Reduced table p) eq (left_with q i l k (same side s (subst (λ (n : ℕ). AcceptsAll (pattern_at (records table) n)) ea (all ex)) eq (more ey)))
       where
         is_q : pattern_at (records table) q ≡ halved sequence (half table q 0) (half table q 1)
-        is_q = is_concatenation table index q i k
+        is_q = is_concatenation table q i k
 
-        same : (side : ℕ) → side < 2 → AcceptsAll (half table p side) → q ≡ part (1 - side) → TakesMore side (pattern_at (records table) q) → Same (pattern_at (records table) p) (pattern_at (records table) q)
+        same : (side : ℕ) → side < 2 → AcceptsAll (half table p side) → q ≡ part (1 - side) → TakesMore side (pattern_at (records table) q) → Equal (pattern_at (records table) p) (pattern_at (records table) q)
         same zero s a eq t =
             let e2 : pattern_at (records table) p ≡ halved sequence (half table p 0) (halved sequence (half table q 0) (half table q 1)) =
-            is_concatenation table index p h e ∙ ap (halved sequence (half table p 0)) (ap (pattern_at (records table)) (sym eq) ∙ is_q) in
-            subst (λ (w : Pattern). Same w (pattern_at (records table) q)) (sym e2)
-            (subst (Same (halved sequence (half table p 0) (halved sequence (half table q 0) (half table q 1)))) (sym is_q)
+            is_concatenation table p h e ∙ ap (halved sequence (half table p 0)) (ap (pattern_at (records table)) (sym eq) ∙ is_q) in
+            subst (λ (w : Pattern). Equal w (pattern_at (records table) q)) (sym e2)
+            (subst (Equal (halved sequence (half table p 0) (halved sequence (half table q 0) (half table q 1)))) (sym is_q)
             (same_left (half table p 0) (half table q 0) (half table q 1) a (subst (TakesMore 0) is_q t)))
         same (suc zero) s a eq t =
             let e2 : pattern_at (records table) p ≡ halved sequence (halved sequence (half table q 0) (half table q 1)) (half table p 1) =
-            is_concatenation table index p h e ∙ ap (λ (w : Pattern). halved sequence w (half table p 1)) (ap (pattern_at (records table)) (sym eq) ∙ is_q) in
-            subst (λ (w : Pattern). Same w (pattern_at (records table) q)) (sym e2)
-            (subst (Same (halved sequence (halved sequence (half table q 0) (half table q 1)) (half table p 1))) (sym is_q)
+            is_concatenation table p h e ∙ ap (λ (w : Pattern). halved sequence w (half table p 1)) (ap (pattern_at (records table)) (sym eq) ∙ is_q) in
+            subst (λ (w : Pattern). Equal w (pattern_at (records table) q)) (sym e2)
+            (subst (Equal (halved sequence (halved sequence (half table q 0) (half table q 1)) (half table p 1))) (sym is_q)
             (same_right (half table p 1) (half table q 0) (half table q 1) a (subst (TakesMore 1) is_q t)))
         same (suc (suc n)) s a eq t = absurd (omega arith)
 

@@ -15,6 +15,7 @@ use Rattle.tables.proofs.Laws.Through.{EachTo, each_next}
 use Rattle.tables.specs.Table.{record_at, kind_at}
 use Rattle.tables.specs.Accepted.{records}
 use Rattle.parts.specs.Part.{CellIs}
+use Rattle.parts.proofs.Packing.{how_none}
 use Rattle.parts.specs.Word.{unpacked}
 use Rattle.parts.proofs.Laws.{part_one}
 use Rattle.patterns.specs.Binding.{Cell, free, is, Binding, names, nothing, cell_of, merge, consistent, with_each, together}
@@ -103,7 +104,7 @@ module _ (b : Binding) (b_sized : length b ≡ names) (rs : List Binding) (rs_si
 
 -- ---- two ways of a pattern
 
-module _ (table index : List ℕ) (p : ℕ) (r : Composed table index p) (v : Value) where
+module _ (table : List ℕ) (p : ℕ) (r : Composed table p) (v : Value) where
   abbrev P : Pattern
   P = pattern_at (records table) p
 
@@ -113,7 +114,7 @@ module _ (table index : List ℕ) (p : ℕ) (r : Composed table index p) (v : Va
   way_match vs i m j =
       let fine = all_fine (match_each (patterns_of (inner_of table p)) vs) (λ b k. record { sized = each_sized (patterns_of (inner_of table p)) vs b (matched_each (patterns_of (inner_of table p)) vs b k); agrees = each_consistent (patterns_of (inner_of table p)) vs b k }) in
       let one : one_way (inner_of table p) [] nothing vs ≡ match_each (patterns_of (inner_of table p)) vs = ap (with_each nothing) (together_nothing (match_each (patterns_of (inner_of table p)) vs) fine) ∙ with_nothing (match_each (patterns_of (inner_of table p)) vs) fine in
-      subst (In m) (sym (whole table index p r v [] nothing) ∙ onward_one P v) (gather_in vs m (ways_of table p v) (one_way (inner_of table p) [] nothing) i (subst (In m) (sym one) j))
+      subst (In m) (sym (whole table p r v [] nothing) ∙ onward_one P v) (gather_in vs m (ways_of table p v) (one_way (inner_of table p) [] nothing) i (subst (In m) (sym one) j))
 
   way_told : (vs : List Value) → In vs (ways_of table p v) → (m : Binding) → In m (match_each (patterns_of (inner_of table p)) vs) → (length m ≡ names) × ((y : ℕ) → y < names → Told (named (pattern_at (records table) p) y) (cell_of m y))
   way_told vs i m j = let q = matched P v m (way_match vs i m j) in (match_sized P v m q, told P v m q)
@@ -140,25 +141,25 @@ NoAnyTo table p i = EachTo (λ q. holds_any (pattern_at (records table) q) ≡ f
 pub any_next : (table : List ℕ) (p i q : ℕ) → NoAnyTo table p i → q ≡ operand (record_at (records table) p) i → (t : Bool) → TellsAny table q t → t ≡ false → NoAnyTo table p (i + 1)
 any_next table p i q n e t h y = each_next (λ q. holds_any (pattern_at (records table) q) ≡ false) (record_at (records table) p) i q n e (sym h ∙ y)
 
-module _ (table index : List ℕ) (p : ℕ) (r : Readable table index p) where
+module _ (table : List ℕ) (p : ℕ) (r : Readable table p) where
   pub any_here : kind_at (records table) p ≡ 33 → TellsAny table p true
   unfolding holds_any
-  any_here e = sym (ap holds_any (by_record table index p r ∙ is_any (record_at (records table) p) (inner_of table p) e))
+  any_here e = sym (ap holds_any (by_record table p r ∙ is_any (record_at (records table) p) (inner_of table p) e))
 
   pub any_leaf : (kind_at (records table) p ≡ 33 → ⊥) → is_composed (kind_at (records table) p) ≡ false → TellsAny table p false
-  any_leaf n c = sym (ap holds_any (by_record table index p r) ∙ any_bare (record_at (records table) p) (inner_of table p) n r.pattern c)
+  any_leaf n c = sym (ap holds_any (by_record table p r) ∙ any_bare (record_at (records table) p) (inner_of table p) n r.pattern c)
 
   module _ (c : is_composed (kind_at (records table) p) ≡ true) where
     any_parts : holds_any (pattern_at (records table) p) ≡ some_any (patterns_of (inner_of table p))
-    any_parts = ap holds_any (by_record table index p r) ∙ any_composed (record_at (records table) p) (inner_of table p) c (λ q. inner_length table index p r ∙ count_two table index p r c q)
+    any_parts = ap holds_any (by_record table p r) ∙ any_composed (record_at (records table) p) (inner_of table p) c (λ q. inner_length table p r ∙ count_two table p r c q)
 
     pub any_found : (i q : ℕ) → i < length (operands_of (record_at (records table) p)) → q ≡ operand (record_at (records table) p) i → (t : Bool) → TellsAny table q t → t ≡ true → TellsAny table p true
     unfolding holds_any
-    any_found i q l e t h y = sym (some_part holds_any some_any refl (λ q qs. refl) table index p r any_parts i q l e (sym h ∙ y))
+    any_found i q l e t h y = sym (some_part holds_any some_any refl (λ q qs. refl) table p r any_parts i q l e (sym h ∙ y))
 
     pub any_none : (i : ℕ) → NoAnyTo table p i → length (operands_of (record_at (records table) p)) ≤ i → TellsAny table p false
     unfolding holds_any
-    any_none i h l = sym (no_part holds_any some_any refl (λ q qs. refl) table index p r any_parts i h l)
+    any_none i h l = sym (no_part holds_any some_any refl (λ q qs. refl) table p r any_parts i h l)
 
 -- ---- a row that agrees with what is found
 
@@ -170,8 +171,8 @@ pub agrees_more : (found rows : List ℕ) (r x : ℕ) → AgreesTo found rows r 
 agrees_more found rows r x h e y l f = by_lower y x (λ k. h y k f) (λ k. let d : x ≡ y = omega arith in subst (λ (z : ℕ). (get_or found z 0 ≡ 0 → ⊥) → get_or rows (16 * r + z) 0 ≡ get_or found z 0) d e f)
 
 word_cell : (s : List ℕ) (w : ℕ) (c d : Cell) → (w % 4 ≡ 0 → ⊥) → CellIs s (unpacked w) c → CellIs s (unpacked w) d → (v : Value) × (c ≡ is v) × (d ≡ is v)
-word_cell s w c d f (inl h) k = absurd (f h.0)
-word_cell s w c d f (inr h) (inl k) = absurd (f k.0)
+word_cell s w c d f (inl h) k = absurd (f (how_none (w % 4) h.0))
+word_cell s w c d f (inr h) (inl k) = absurd (f (how_none (w % 4) k.0))
 word_cell s w c d f (inr (v, e, h)) (inr (u, g, k)) = (v, e, g ∙ ap is (sym (part_one {p = unpacked w} h k)))
 
 pub row_same : (s found : List ℕ) (q : Binding) → Stands s found q → (rows : List ℕ) (r : ℕ) (o : Binding) → RowIs s rows r o → Agrees found rows r → (ts : List Task) (c : Binding) → In c (onward ts q) → (y : ℕ) → y < names → (get_or found y 0 ≡ 0 → ⊥) → cell_of o y ≡ cell_of c y

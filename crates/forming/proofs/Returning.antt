@@ -48,7 +48,7 @@ in_drop (suc n) [] x i = i
 in_drop (suc n) (y ∷ xs) x i = inr (in_drop n xs x i)
 
 -- The last level, i, with its frame, and those below.
-pub record Last (table index s a found frames : List ℕ) (hit : ℕ) (rows order : List ℕ) (n : ℕ) (target : List Binding) (i : ℕ) (f : Frame) : Type 0 where
+pub record Last (table s a found frames : List ℕ) (hit : ℕ) (rows order : List ℕ) (n : ℕ) (target : List Binding) (i : ℕ) (f : Frame) : Type 0 where
   pub short : length s ≤ 65536
   pub long : length a ≡ agenda_words
   pub sized : length found ≡ 16
@@ -56,9 +56,9 @@ pub record Last (table index s a found frames : List ℕ) (hit : ℕ) (rows orde
   pub level : Level
   pub others : List Level
   pub count : length others ≡ i
-  pub is : LevelIs table index s a i f level
+  pub is : LevelIs table s a i f level
   pub grown : Grown level.words found
-  pub below : StackIs table index s a frames f.top level.words others
+  pub below : StackIs table s a frames f.top level.words others
   pub bindings : List Binding
   pub rows_are : RowsAre s rows order n bindings
   pub done_in : (c : Binding) → In c level.done → In c bindings
@@ -68,11 +68,11 @@ pub record Last (table index s a found frames : List ℕ) (hit : ℕ) (rows orde
   pub traced : Traced s rows n bindings others
   pub right : adding (level.due ++ dues others) bindings ≡ target
 
-pub last_of : (table index s a found frames : List ℕ) (depth hit : ℕ) (rows order : List ℕ) (n : ℕ) (target : List Binding) → Stacked table index s a entries found frames depth hit rows order n [] target → (i : ℕ) → depth ≡ suc i → (f : Frame) → f ≡ frame_at frames i
-    → Last table index s a found frames hit rows order n target i f
-last_of table index s a found frames depth hit rows order n target h i e f fe = go h.levels h.deep h.stack h.accounted h.traced h.right
+pub last_of : (table s a found frames : List ℕ) (depth hit : ℕ) (rows order : List ℕ) (n : ℕ) (target : List Binding) → Stacked table s a entries found frames depth hit rows order n [] target → (i : ℕ) → depth ≡ suc i → (f : Frame) → f ≡ frame_at frames i
+    → Last table s a found frames hit rows order n target i f
+last_of table s a found frames depth hit rows order n target h i e f fe = go h.levels h.deep h.stack h.accounted h.traced h.right
   where
-    go : (ls : List Level) → length ls ≡ depth → StackIs table index s a frames entries found ls → Accounted [] [] h.bindings hit ls → Traced s rows n h.bindings ls → adding (dues ls) h.bindings ≡ target → Last table index s a found frames hit rows order n target i f
+    go : (ls : List Level) → length ls ≡ depth → StackIs table s a frames entries found ls → Accounted [] [] h.bindings hit ls → Traced s rows n h.bindings ls → adding (dues ls) h.bindings ≡ target → Last table s a found frames hit rows order n target i f
     go [] d x y v z = absurd (omega arith)
     go (l ∷ ls) d (x, u, g, w) (p, q, r, t) v z =
         let c : length ls ≡ i = omega arith in
@@ -85,9 +85,9 @@ last_of table index s a found frames depth hit rows order n target h i e f fe = 
           level = l;
           others = ls;
           count = c;
-          is = subst (λ (j : ℕ). LevelIs table index s a j f l) c (subst (λ (y : Frame). LevelIs table index s a (length ls) y l) same x);
+          is = subst (λ (j : ℕ). LevelIs table s a j f l) c (subst (λ (y : Frame). LevelIs table s a (length ls) y l) same x);
           grown = g;
-          below = subst (λ (y : Frame). StackIs table index s a frames y.top l.words ls) same w;
+          below = subst (λ (y : Frame). StackIs table s a frames y.top l.words ls) same w;
           bindings = h.bindings;
           rows_are = h.rows_are;
           done_in = λ b j. ⊎_elim (λ k. k) (λ k. absurd k) (q b j);
@@ -98,7 +98,7 @@ last_of table index s a found frames depth hit rows order n target h i e f fe = 
           right = z;
         }
 
-module _ (table index s a found frames : List ℕ) (hit : ℕ) (rows order : List ℕ) (n : ℕ) (target : List Binding) (i : ℕ) (f : Frame) (h : Last table index s a found frames hit rows order n target i f) where
+module _ (table s a found frames : List ℕ) (hit : ℕ) (rows order : List ℕ) (n : ℕ) (target : List Binding) (i : ℕ) (f : Frame) (h : Last table s a found frames hit rows order n target i f) where
   abbrev L : Level
   L = h.level
 
@@ -112,11 +112,11 @@ module _ (table index s a found frames : List ℕ) (hit : ℕ) (rows order : Lis
   top_low = omega (arith, h.is.room)
 
   pub top_room : f.top + count_of table f.p ≤ entries
-  top_room = count_room table index f.p h.is.composed f.top L.tasks h.is.room
+  top_room = count_room table f.p h.is.composed f.top L.tasks h.is.room
 
   -- ---- it is only a test, and has a match
 
-  pub last_left : f.once ≡ true → i < hit → Stacked table index s a entries found frames i i rows order n [] target
+  pub last_left : f.once ≡ true → i < hit → Stacked table s a entries found frames i i rows order n [] target
   last_left o l = record {
     short = h.short;
     long = h.long;
@@ -125,7 +125,7 @@ module _ (table index s a found frames : List ℕ) (hit : ℕ) (rows order : Lis
     levels = h.others;
     deep = h.count;
     hits = omega arith;
-    stack = stack_kept table index s a a frames frames f.top entries L.words found h.others (λ j m. refl) top_low h.grown h.frames_long refl (λ j m. refl) h.below;
+    stack = stack_kept table s a a frames frames f.top entries L.words found h.others (λ j m. refl) top_low h.grown h.frames_long refl (λ j m. refl) h.below;
     bindings = h.bindings;
     rows_are = h.rows_are;
     accounted = accounted_with (L.done ++ L.due) [] L.due [] h.bindings h.bindings hit i h.others (λ c j. absurd j) (λ c j. inl (⊎_elim (λ k. k) (λ k. there c k) j)) (omega arith) h.accounted;
@@ -138,7 +138,7 @@ module _ (table index s a found frames : List ℕ) (hit : ℕ) (rows order : Lis
           let (x, xi) = h.hit_some l in
           let (vs, vi, xv, all) = h.is.done x xi in
           let (us, ui, k) = in_gather c (drop f.way (ways_of table f.p L.value)) way (subst (In c) h.is.due j) in
-          h.done_in c (all c (enough table index f.p h.is.composed s L.words L.binding h.is.stands (subst (TellsSettled table f.p L.words) o h.is.settled) L.value (part_well_formed h.is.here) L.tasks vs vi x xv c
+          h.done_in c (all c (enough table f.p h.is.composed s L.words L.binding h.is.stands (subst (TellsSettled table f.p L.words) o h.is.settled) L.value (part_well_formed h.is.here) L.tasks vs vi x xv c
           (gather_in us c (ways_of table f.p L.value) way (in_drop f.way (ways_of table f.p L.value) us ui) k)))
 
   -- ---- its next way
@@ -148,7 +148,7 @@ module _ (table index s a found frames : List ℕ) (hit : ℕ) (rows order : Lis
     sizes_told = subst (λ (c : ℕ). TellsSizes table L.binding f.p c f.sizes) (sym ek) h.is.sizes
 
     pub next_asked : FromHeld k f.ways f.sizes
-    next_asked = from_asked table index f.p h.is.composed.readable k ek L.binding f.sizes sizes_told L.value f.ways h.is.ways (omega (arith, h.is.within))
+    next_asked = from_asked table f.p h.is.composed.readable k ek L.binding f.sizes sizes_told L.value f.ways h.is.ways (omega (arith, h.is.within))
 
     pub word_met : (word : ℕ) → word ≡ get_or a (3 * f.at + 1) 0 → WordMet s k word f.ways
     word_met word e = record {
@@ -163,11 +163,11 @@ module _ (table index s a found frames : List ℕ) (hit : ℕ) (rows order : Lis
     }
 
     pub next_low : f.next < f.top
-    next_low = agenda_low table index s a f.top f.next L.tasks (omega (arith, h.is.low)) h.is.are
+    next_low = agenda_low table s a f.top f.next L.tasks (omega (arith, h.is.low)) h.is.are
 
     module _ (e : ℕ) (fr : From k f.ways (f.way + 1) f.sizes e) where
       module _ (word : ℕ) (we : SameValue s (get_or a (3 * f.at + 1) 0) word) where
-        pub push_asked : Pushable table index f.p s (unpacked word) f.way a f.next f.top (count_of table f.p)
+        pub push_asked : Pushable table f.p s (unpacked word) f.way a f.next f.top (count_of table f.p)
         push_asked = record {
           composed = h.is.composed;
           short = h.short;
@@ -180,7 +180,7 @@ module _ (table index s a found frames : List ℕ) (hit : ℕ) (rows order : Lis
           long = h.long;
         }
 
-        module _ (b : List ℕ) (head : ℕ) (pushed : Pushed table index f.p s (unpacked word) f.way a f.next f.top f.tests b head) (frames' : List ℕ) (left : ℕ) (ad : Advanced frames i (onto f e n) frames' left)
+        module _ (b : List ℕ) (head : ℕ) (pushed : Pushed table f.p s (unpacked word) f.way a f.next f.top f.tests b head) (frames' : List ℕ) (left : ℕ) (ad : Advanced frames i (onto f e n) frames' left)
             (found' : List ℕ) (cl : Cleared found f.mask found') (c : ℕ) (ec : c ≡ count_of table f.p) (hit' : ℕ) (hl : hit' ≤ hit) (hd : hit' ≤ left) where
           head_falls : heft (f.top + c) head ≤ heft f.top f.next
           head_falls = falls_on f.top f.next c head (omega (arith, ec, top_room)) (omega (arith, ec, pushed.low)) (λ z. pushed.none (omega (arith, ec, z)))
@@ -208,7 +208,7 @@ module _ (table index s a found frames : List ℕ) (hit : ℕ) (rows order : Lis
 
           this_way : way (met_by table f.p h.level.value f.way) ≡ more
           unfolding more
-          this_way = same_way table index f.p h.is.composed L.value (part_well_formed h.is.here) L.tasks L.binding f.way inside
+          this_way = same_way table f.p h.is.composed L.value (part_well_formed h.is.here) L.tasks L.binding f.way inside
 
           due_is : h.level.due ≡ more ++ due'
           unfolding gather due'
@@ -216,18 +216,18 @@ module _ (table index s a found frames : List ℕ) (hit : ℕ) (rows order : Lis
               h.is.due
               ∙ ap (λ (ws : List (List Value)). gather ws way) (drop-cons (ways_of table f.p L.value) f.way [] inside ∙ ap (λ (j : ℕ). met_by table f.p L.value f.way ∷ drop j (ways_of table f.p L.value)) (sym (add-one f.way)))
               ∙ ap (λ (xs : List Binding). xs ++ gather (drop (f.way + 1) (ways_of table f.p L.value)) way) this_way
-              ∙ ap (λ (xs : List Binding). more ++ xs) (sym (passed_over table index f.p h.is.composed.readable k ek L.binding f.sizes sizes_told L.value f.ways h.is.ways h.is.stands.binding_sized L.tasks (f.way + 1) e (omega (arith, h.is.within)) fr))
+              ∙ ap (λ (xs : List Binding). more ++ xs) (sym (passed_over table f.p h.is.composed.readable k ek L.binding f.sizes sizes_told L.value f.ways h.is.ways h.is.stands.binding_sized L.tasks (f.way + 1) e (omega (arith, h.is.within)) fr))
 
-          others_kept : (high : ℕ) → f.top ≤ high → StackIs table index s b frames' high h.level.words h.others
-          others_kept high u = stack_kept table index s a b frames frames' f.top high L.words L.words h.others pushed.kept u (grown_same L.words) h.frames_long ad.long (λ j m. ad.kept j (omega (arith, h.count))) h.below
+          others_kept : (high : ℕ) → f.top ≤ high → StackIs table s b frames' high h.level.words h.others
+          others_kept high u = stack_kept table s a b frames frames' f.top high L.words L.words h.others pushed.kept u (grown_same L.words) h.frames_long ad.long (λ j m. ad.kept j (omega (arith, h.count))) h.below
 
           level' : Level
           level' = record { value = h.level.value; tasks = h.level.tasks; binding = h.level.binding; words = h.level.words; past = h.level.done; done = h.level.done ++ more; due = due'; since = h.level.since; seen = n }
 
-          level_on : e < f.ways → LevelIs table index s b i (onto f e n) level'
+          level_on : e < f.ways → LevelIs table s b i (onto f e n) level'
           unfolding level' due'
           level_on l =
-              let x = level_kept table index s a b i f L pushed.kept h.is in
+              let x = level_kept table s a b i f L pushed.kept h.is in
               record {
                 composed = x.composed;
                 low = x.low;
@@ -257,7 +257,7 @@ module _ (table index s a found frames : List ℕ) (hit : ℕ) (rows order : Lis
               go o (inr j) = (met_by table f.p L.value f.way, at_in (ways_of table f.p L.value) f.way [] inside, subst (In o) (sym this_way) j, λ d m. in_right d L.done more (subst (In d) this_way m))
 
           abbrev Now : ℕ → List ℕ → Type 0
-          Now d words = Stacked table index s b (f.top + c) words frames' d hit' rows order n more target
+          Now d words = Stacked table s b (f.top + c) words frames' d hit' rows order n more target
 
           stays_on : left ≡ suc i → e < f.ways → frame_at frames' i ≡ onto f e n → Now left h.level.words
           unfolding level'
@@ -269,8 +269,8 @@ module _ (table index s a found frames : List ℕ) (hit : ℕ) (rows order : Lis
             levels = level' ∷ h.others;
             deep = ap suc h.count;
             hits = hs;
-            stack = subst (λ (j : ℕ). LevelIs table index s b j (frame_at frames' j) level' × ((frame_at frames' j).top ≤ f.top + c) × Grown L.words L.words × StackIs table index s b frames' (frame_at frames' j).top L.words h.others) (sym h.count)
-                (subst (λ (g : Frame). LevelIs table index s b i g level' × (g.top ≤ f.top + c) × Grown L.words L.words × StackIs table index s b frames' g.top L.words h.others) (sym fe) (level_on l, omega arith, grown_same L.words, others_kept f.top (omega arith)));
+            stack = subst (λ (j : ℕ). LevelIs table s b j (frame_at frames' j) level' × ((frame_at frames' j).top ≤ f.top + c) × Grown L.words L.words × StackIs table s b frames' (frame_at frames' j).top L.words h.others) (sym h.count)
+                (subst (λ (g : Frame). LevelIs table s b i g level' × (g.top ≤ f.top + c) × Grown L.words L.words × StackIs table s b frames' g.top L.words h.others) (sym fe) (level_on l, omega arith, grown_same L.words, others_kept f.top (omega arith)));
             bindings = h.bindings;
             rows_are = h.rows_are;
             accounted = (
@@ -316,27 +316,27 @@ module _ (table index s a found frames : List ℕ) (hit : ℕ) (rows order : Lis
               }
 
           low_enough : (((left ≡ suc i) × (e < f.ways) × (frame_at frames' i ≡ onto f e n)) ⊎ ((left ≡ i) × (f.ways ≤ e))) → 2 * left + 2 ≤ f.top + c
-          low_enough (inl (x, y, z)) = omega (arith, h.is.high, ec, fr.low, several_parts table index f.p h.is.composed L.value (omega (arith, fr.low, h.is.ways)))
+          low_enough (inl (x, y, z)) = omega (arith, h.is.high, ec, fr.low, several_parts table f.p h.is.composed L.value (omega (arith, fr.low, h.is.ways)))
           low_enough (inr (x, y)) = omega (arith, h.is.high)
 
-          pub going_down : Descending table index s b head (f.top + c) found' frames' left hit' rows order n target
+          pub going_down : Descending table s b head (f.top + c) found' frames' left hit' rows order n target
           unfolding now more
           going_down = record {
             tasks = now;
-            are = subst (λ (m : ℕ). AgendaIs table index s b (f.top + m) head now) (sym ec) (pushed.right L.value L.tasks (we L.value h.is.here) h.is.narrow h.is.are);
-            room = omega (arith, ec, tests_room f.tests parts L.tasks, parts_room table index f.p h.is.composed f.top L.tasks h.is.room (met_by table f.p L.value f.way));
+            are = subst (λ (m : ℕ). AgendaIs table s b (f.top + m) head now) (sym ec) (pushed.right L.value L.tasks (we L.value h.is.here) h.is.narrow h.is.are);
+            room = omega (arith, ec, tests_room f.tests parts L.tasks, parts_room table f.p h.is.composed f.top L.tasks h.is.room (met_by table f.p L.value f.way));
             low = low_enough ad.how;
             binding = L.binding;
             stands = subst (λ (ws : List ℕ). Stands s ws L.binding) (sym words_again) h.is.stands;
-            stacked = restacked table index s b (f.top + c) found' frames' left hit' rows order n more target (subst (λ (ws : List ℕ). Now left ws) (sym words_again) (⊎_elim (λ (x, y, z). stays_on x y z) (λ (x, y). leaves_off x y) ad.how))
+            stacked = restacked table s b (f.top + c) found' frames' left hit' rows order n more target (subst (λ (ws : List ℕ). Now left ws) (sym words_again) (⊎_elim (λ (x, y, z). stays_on x y z) (λ (x, y). leaves_off x y) ad.how))
                 (f.top + c) (omega arith) found' (grown_same found') frames' refl (λ j m. refl) (onward now L.binding) (tests_alike f.tests parts L.tasks L.binding);
           }
 
 -- ---- the first step, and the end
 
-pub starting : (table index s a : List ℕ) (head top : ℕ) (m rows order : List ℕ) (n : ℕ) (h : Solvable table index s a head top m rows order n) (frames : List ℕ) → length frames ≡ 1800
-    → Descending table index s a head top m frames 0 0 rows order n (adding (onward h.tasks h.binding) h.bindings)
-starting table index s a head top m rows order n h frames e = record {
+pub starting : (table s a : List ℕ) (head top : ℕ) (m rows order : List ℕ) (n : ℕ) (h : Solvable table s a head top m rows order n) (frames : List ℕ) → length frames ≡ 1800
+    → Descending table s a head top m frames 0 0 rows order n (adding (onward h.tasks h.binding) h.bindings)
+starting table s a head top m rows order n h frames e = record {
   tasks = h.tasks;
   are = h.are;
   room = h.room;
@@ -360,9 +360,9 @@ starting table index s a head top m rows order n h frames e = record {
   };
 }
 
-pub ended : (table index s a found frames : List ℕ) (depth hit : ℕ) (rows order : List ℕ) (n : ℕ) (target : List Binding) → Stacked table index s a entries found frames depth hit rows order n [] target → depth ≤ 0 → RowsAre s rows order n target
+pub ended : (table s a found frames : List ℕ) (depth hit : ℕ) (rows order : List ℕ) (n : ℕ) (target : List Binding) → Stacked table s a entries found frames depth hit rows order n [] target → depth ≤ 0 → RowsAre s rows order n target
 unfolding adding
-ended table index s a found frames depth hit rows order n target h l = go h.levels h.deep h.right
+ended table s a found frames depth hit rows order n target h l = go h.levels h.deep h.right
   where
     go : (ls : List Level) → length ls ≡ depth → adding (dues ls) h.bindings ≡ target → RowsAre s rows order n target
     go [] d z = subst (RowsAre s rows order n) z h.rows_are

@@ -3,7 +3,7 @@ use mathlib.Core.Path.{◌≡◌, refl, sym, ap, ap₂, subst, ◌∙◌}
 use mathlib.Core.Bool.{Bool, true, false, cond}
 use mathlib.Core.Logic.{inl, inr, ⊎_elim}
 use mathlib.Core.List.{List, [], ◌∷◌, ◌++◌}
-use Prim.Native.Nat.{ℕ, suc, ◌+◌, ◌*◌, ◌^◌, ◌≤◌, ◌<◌}
+use Prim.Native.Nat.{◌%◌, ℕ, suc, ◌+◌, ◌*◌, ◌^◌, ◌≤◌, ◌<◌}
 use native.Mathlib.Nat.{pow-suc}
 use native.Mathlib.Omega.{arith}
 use lib.Dec.{eqb}
@@ -21,6 +21,7 @@ use Rattle.tables.proofs.Laws.Through.{EachTo, each_next}
 use Rattle.tables.specs.Table.{record_at, kind_at}
 use Rattle.tables.specs.Accepted.{records}
 use Rattle.parts.specs.Part.{PartIs}
+use Rattle.parts.proofs.Packing.{how_none}
 use Rattle.parts.specs.Word.{unpacked}
 use Rattle.patterns.specs.Binding.{Cell, free, is, clash, Binding, names, cell_of, agree, merge, consistent, with_each, together}
 use Rattle.patterns.specs.Pattern.{Pattern, name, any, matches}
@@ -46,8 +47,8 @@ use Rattle.forming.specs.Laws.Onward.{onward_first}
 -- ---- the names of a pattern by its record
 
 -- a name's record has its number
-pub name_is : (table index : List ℕ) (p : ℕ) → Readable table index p → kind_at (records table) p ≡ 32 → (x : ℕ) → x ≡ name_of (record_at (records table) p) → (x < names) × (pattern_at (records table) p ≡ name x)
-name_is table index p h e x n = (omega (arith, n, name_small table index p h e), by_record table index p h ∙ is_name (record_at (records table) p) (inner_of table p) e ∙ ap name (sym n))
+pub name_is : (table : List ℕ) (p : ℕ) → Readable table p → kind_at (records table) p ≡ 32 → (x : ℕ) → x ≡ name_of (record_at (records table) p) → (x < names) × (pattern_at (records table) p ≡ name x)
+name_is table p h e x n = (omega (arith, n, name_small table p h e), by_record table p h ∙ is_name (record_at (records table) p) (inner_of table p) e ∙ ap name (sym n))
 
 composed_names : (r : Record) (ps : List Pattern) → is_composed r.kind ≡ true → (is_halved r.kind ≡ true → length ps ≡ 2) → (y : ℕ) → named (pattern_of r ps) y ≡ named_each (patterns_of ps) y
 unfolding named
@@ -67,34 +68,34 @@ only_name x words h y e z = h (ap (λ (n : ℕ). get_or words n 0) (eqb-true x y
 abbrev pub SettledTo : List ℕ → ℕ → List ℕ → ℕ → Type 0
 SettledTo table p m i = EachTo (λ q. Settled (pattern_at (records table) q) m) (record_at (records table) p) i
 
-module _ (table index : List ℕ) (p : ℕ) (r : Readable table index p) (m : List ℕ) where
+module _ (table : List ℕ) (p : ℕ) (r : Readable table p) (m : List ℕ) where
   pub settled_name : kind_at (records table) p ≡ 32 → (x : ℕ) → x ≡ name_of (record_at (records table) p) → (t : Bool) → HasWord m x t → TellsSettled table p m t
   unfolding named
   settled_name e x q t h = record {
     says = λ k.
-        subst (λ (w : Pattern). Settled w m) (sym (name_is table index p r e x q).1) (λ y l n z. only_name x m (h.says k) y n z);
+        subst (λ (w : Pattern). Settled w m) (sym (name_is table p r e x q).1) (λ y l n z. only_name x m (h.says k) y n z);
     each = λ k c. true_false (sym c ∙ name_bare e);
   }
 
   pub settled_leaf : (kind_at (records table) p ≡ 32 → ⊥) → is_composed (kind_at (records table) p) ≡ false → TellsSettled table p m true
   settled_leaf n l = record {
     says = λ k y b e z.
-        true_false (sym e ∙ ap (λ (w : Pattern). named w y) (by_record table index p r) ∙ no_names (record_at (records table) p) (inner_of table p) n r.pattern l y);
+        true_false (sym e ∙ ap (λ (w : Pattern). named w y) (by_record table p r) ∙ no_names (record_at (records table) p) (inner_of table p) n r.pattern l y);
     each = λ k c. true_false (sym c ∙ l);
   }
 
   module _ (c : is_composed (kind_at (records table) p) ≡ true) where
     composed : (y : ℕ) → named (pattern_at (records table) p) y ≡ named_each (patterns_of (inner_of table p)) y
     composed y =
-        ap (λ (w : Pattern). named w y) (by_record table index p r)
-        ∙ composed_names (record_at (records table) p) (inner_of table p) c (λ q. inner_length table index p r ∙ count_two table index p r c q) y
+        ap (λ (w : Pattern). named w y) (by_record table p r)
+        ∙ composed_names (record_at (records table) p) (inner_of table p) c (λ q. inner_length table p r ∙ count_two table p r c q) y
 
     pub settled_all : (i : ℕ) → SettledTo table p m i → length (operands_of (record_at (records table) p)) ≤ i → TellsSettled table p m true
     unfolding named
     settled_all i h l = record {
       -- where y has no word, no part names it
       says = λ k y b e z.
-          true_false (sym e ∙ no_part (λ q. named q y) (λ qs. named_each qs y) refl (λ q qs. refl) table index p r (composed y) i (λ j o. not_so (named (pattern_at (records table) (operand (record_at (records table) p) j)) y) (λ f. h j o y b f z)) l);
+          true_false (sym e ∙ no_part (λ q. named q y) (λ qs. named_each qs y) refl (λ q qs. refl) table p r (composed y) i (λ j o. not_so (named (pattern_at (records table) (operand (record_at (records table) p) j)) y) (λ f. h j o y b f z)) l);
       each = λ k c j b. h j (omega arith);
     }
       where
@@ -112,7 +113,7 @@ settled_no table p m = record { says = λ e. true_false (sym e); each = λ e. tr
 
 module _ (s : List ℕ) (m : List ℕ) (b : Binding) (h : Stands s m b) where
   pub has_value : (y : ℕ) → y < names → (get_or m y 0 ≡ 0 → ⊥) → (v : Value) × (cell_of b y ≡ is v) × PartIs s (unpacked (get_or m y 0)) v
-  has_value y l f = ⊎_elim (λ z. absurd (f (h.blank y l z.0))) (λ z. z) (h.cells y l)
+  has_value y l f = ⊎_elim (λ z. absurd (f (h.blank y l (how_none (get_or m y 0 % 4) z.0)))) (λ z. z) (h.cells y l)
 
   abbrev is_fine : Cell → Bool
   is_fine free = true

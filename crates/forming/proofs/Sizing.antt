@@ -28,7 +28,8 @@ use Rattle.patterns.specs.Ways.{Halves, halves, proper_splits}
 use Rattle.patterns.specs.Binding.{is, Binding, names, cell_of}
 use Rattle.patterns.specs.Pattern.{Pattern, name, each, halved, items_of, entries_of, UnitOf, units_of, items_in, halves_in, is_unordered, divisions}
 use Rattle.patterns.specs.Relation.{Divided, Matches}
-use Rattle.prelude.proofs.Absurd.{true_false}
+use Rattle.prelude.proofs.Absurd.{impossible, true_false}
+use Rattle.forming.proofs.Told.{for_some}
 use Rattle.patterns.specs.Nodes.{collection_of, width}
 use Rattle.patterns.proofs.Laws.Named.{only_cell}
 use Rattle.patterns.proofs.Laws.Nodes.{parts_length}
@@ -39,8 +40,9 @@ use Rattle.matching.proofs.Records.{by_record, inner_length}
 use Rattle.matching.proofs.Counting.{units_count}
 use Rattle.forming.specs.declared.sizes.Size.{Size}
 use Rattle.forming.specs.declared.sizes.Sizes.{Sizes}
+use Rattle.std.specs.Prelude.{Option, Some, None}
 use Rattle.forming.specs.declared.sizes.Range.{Range}
-use Rattle.forming.specs.Sizes.{Splits, enumeration_of, fewest_of, Sized, SizeOfValue, Takes, TellsSize, Sum, TellsSizes, Rights, FirstOf, SplitFrom, CutFrom, half_at, Barren, Divisible, From}
+use Rattle.forming.specs.Sizes.{Splits, enumeration_of, fewest_of, Sized, SizeOfValue, Takes, TellsSize, Sum, HalvesTake, TellsSizes, RightsIn, Rights, FirstOf, SplitFrom, CutFrom, half_at, Barren, Divisible, From}
 use Rattle.forming.proofs.Compatible.{joined_left, joined_right, compatible_within}
 use Rattle.forming.proofs.Reducing.{items_same, by_splits, is_two}
 use Rattle.forming.proofs.Settling.{name_is, has_value}
@@ -135,15 +137,15 @@ each_by r ps c e u =
 pub size_any : (table : List ℕ) (st : Binding) (p c n : ℕ) → n ≡ fewest_of (collection_of c) → TellsSize table st p c (record { least = n; more = true })
 size_any table st p c n e us b low m o = record { least = omega (arith, e, low); exact = λ e. true_false e }
 
-module _ (table index : List ℕ) (p : ℕ) (h : Readable table index p) (c : ℕ) (u : Splits c) where
+module _ (table : List ℕ) (p : ℕ) (h : Readable table p) (c : ℕ) (u : Splits c) where
   pub size_each : kind_at (records table) p ≡ enumeration_of c → (n : ℕ) → n ≡ length (operands_of (record_at (records table) p)) → (r : ℕ) → r ≡ n / width (collection_of c) → (st : Binding) → TellsSize table st p c (record { least = r; more = false })
   size_each e n l r t st =
-      subst (λ (q : Pattern). Takes st (collection_of c) q (record { least = r; more = false })) (sym (by_record table index p h ∙ each_by (record_at (records table) p) (inner_of table p) c e u))
-      (takes_each st (collection_of c) (inner_of table p) n (l ∙ sym (inner_length table index p h)) r t)
+      subst (λ (q : Pattern). Takes st (collection_of c) q (record { least = r; more = false })) (sym (by_record table p h ∙ each_by (record_at (records table) p) (inner_of table p) c e u))
+      (takes_each st (collection_of c) (inner_of table p) n (l ∙ sym (inner_length table p h)) r t)
 
   pub size_name : kind_at (records table) p ≡ 32 → (s found : List ℕ) (x : ℕ) → x ≡ name_of (record_at (records table) p) → (get_or found x 0 ≡ 0 → ⊥) → (z : Size) → SizeOfValue s (get_or found x 0) c z → (st : Binding) → Stands s found st → TellsSize table st p c z
   size_name e s found x q f z t st k =
-      let (l, n) = name_is table index p h e x q in
+      let (l, n) = name_is table p h e x q in
       let (w, d, i) = has_value s found st k x l f in
       subst (λ (q : Pattern). Takes st (collection_of c) q z) (sym n)
       (takes_name st (collection_of c) x l w d z (λ us g. t us (subst (PartIs s (unpacked (get_or found x 0))) g i)))
@@ -157,22 +159,21 @@ module _ (table index : List ℕ) (p : ℕ) (h : Readable table index p) (c : �
 
     pub size_halved : (z : Size) → Sum x y z → TellsSize table st p c z
     size_halved z s =
-        subst (λ (q : Pattern). Takes st (collection_of c) q z) (sym (is_two table index p h c e u))
+        subst (λ (q : Pattern). Takes st (collection_of c) q z) (sym (is_two table p h c e u))
         (takes_halved st (collection_of c) (pattern_at (records table) (operand (record_at (records table) p) 0)) (pattern_at (records table) (operand (record_at (records table) p) 1)) x y z left_takes right_takes s)
 
-    pub sizes_told : (z : Sizes) → (z.left ≡ x) × (z.right ≡ y) → TellsSizes table st p c z
-    sizes_told z (a, b) e =
-        record { splits = u; left = subst (TellsSize table st (operand (record_at (records table) p) 0) c) (sym a) left_takes; right = subst (TellsSize table st (operand (record_at (records table) p) 1) c) (sym b) right_takes }
+    pub sizes_told : TellsSizes table st p c (Some (record { left = x; right = y }))
+    sizes_told = for_some (HalvesTake table st p c) (record { splits = u; left = left_takes; right = right_takes })
 
-pub no_sizes : (table : List ℕ) (st : Binding) (p c : ℕ) (x y : Size) → TellsSizes table st p c (record { bound = false; left = x; right = y })
-no_sizes table st p c x y e = true_false (sym e)
+pub no_sizes : (table : List ℕ) (st : Binding) (p c : ℕ) → TellsSizes table st p c None
+no_sizes table st p c y e = impossible cc
 
 -- ---- how many the right half has
 
-pub no_rights : (z : Sizes) (n : ℕ) → n < z.left.least + z.right.least → Rights z n (record { least = 1; most = 0 })
-no_rights z n l = record { low = omega arith; right = λ i j e a b. absurd (omega (arith, e, a.least, b.least)) }
+pub no_rights : (z : Sizes) (n : ℕ) → n < z.left.least + z.right.least → Rights z n None
+no_rights z n l i j e a b = omega (arith, e, a.least, b.least)
 
-pub rights_are : (z : Sizes) (n x y : ℕ) → z.left.least + z.right.least ≤ n → ((z.left.more ≡ true) × (x ≡ z.right.least)) ⊎ ((z.left.more ≡ false) × (x ≡ n - z.left.least)) → ((z.right.more ≡ true) × (y ≡ n - z.left.least)) ⊎ ((z.right.more ≡ false) × (y ≡ z.right.least)) → Rights z n (record { least = x; most = y })
+pub rights_are : (z : Sizes) (n x y : ℕ) → z.left.least + z.right.least ≤ n → ((z.left.more ≡ true) × (x ≡ z.right.least)) ⊎ ((z.left.more ≡ false) × (x ≡ n - z.left.least)) → ((z.right.more ≡ true) × (y ≡ n - z.left.least)) ⊎ ((z.right.more ≡ false) × (y ≡ z.right.least)) → RightsIn z n (record { least = x; most = y })
 rights_are z n x y l e f = record { low = high f; right = λ i j s a b. (from e i j s a b, to f i j s a b) }
   where
     high : ((z.right.more ≡ true) × (y ≡ n - z.left.least)) ⊎ ((z.right.more ≡ false) × (y ≡ z.right.least)) → y ≤ n
@@ -186,6 +187,13 @@ rights_are z n x y l e f = record { low = high f; right = λ i j s a b. (from e 
     to : ((z.right.more ≡ true) × (y ≡ n - z.left.least)) ⊎ ((z.right.more ≡ false) × (y ≡ z.right.least)) → (i j : ℕ) → i + j ≡ n → Sized z.left i → Sized z.right j → j ≤ y
     to (inl (m, q)) i j s a b = omega (arith, q, s, a.least)
     to (inr (m, q)) i j s a b = omega (arith, q, b.exact m)
+
+-- a range without a number
+pub rights_apart : (z : Sizes) (n x y : ℕ) → RightsIn z n (record { least = x; most = y }) → y < x → Rights z n None
+rights_apart z n x y h l i j e a b = let r = h.right i j e a b in omega (arith, r.0, r.1)
+
+none_right : (z : Sizes) (n : ℕ) → Rights z n None → RightsIn z n (record { least = 1; most = 0 })
+none_right z n h = record { low = omega arith; right = λ i j e a b. absurd (h i j e a b) }
 
 -- ---- ways that are passed over
 
@@ -302,15 +310,16 @@ module _ (c w : ℕ) (h : Divisible c w) where
       go zero e = omega (arith, e)
       go (suc n) e = omega (arith, e, pow-suc 2 n)
 
-  module _ (z : Sizes) (b : z.bound ≡ true) (d : ℕ) (l : d < w) (r : Range) (e : ℕ) where
+  module _ (z : Sizes) (d : ℕ) (l : d < w) (r : Range) (e : ℕ) where
     -- way j is the split j + 1
-    pub from_splits : is_unordered (collection_of c) ≡ true → Rights z (ones (w + 1)) r → SplitFrom (w + 1) (d + 1) r e → From c w d z (e - 1)
+    pub from_splits : is_unordered (collection_of c) ≡ true → RightsIn z (ones (w + 1)) r → SplitFrom (w + 1) (d + 1) r e → From c w d (Some z) (e - 1)
     from_splits u q k =
         let under : e ≤ w + 1 = k.within (omega arith) in record {
           low = omega (arith, k.low);
           within = λ i. omega arith;
           barren = λ j m n. (
-            b,
+            z,
+            refl,
             λ vs g f s x y.
                 let us = units_of (collection_of c) vs in
                 let p : w ≡ 2 ^ length us - 2 = sym f ∙ splits_count (collection_of c) u vs in
@@ -324,8 +333,8 @@ module _ (c w : ℕ) (h : Divisible c w) where
           );
         }
 
-    pub from_cuts : c ≡ 40 → Rights z (w - 1) r → CutFrom w d r e → From c w d z e
-    from_cuts q u k = record { low = k.low; within = k.within; barren = λ j m n. (b, subst (λ (i : Kind). Barren i w z j) (sym (ap collection_of q)) (none j m n)) }
+    pub from_cuts : c ≡ 40 → RightsIn z (w - 1) r → CutFrom w d r e → From c w d (Some z) e
+    from_cuts q u k = record { low = k.low; within = k.within; barren = λ j m n. (z, refl, subst (λ (i : Kind). Barren i w z j) (sym (ap collection_of q)) (none j m n)) }
       where
         none : (j : ℕ) → d ≤ j → j < e → Barren sequence w z j
         none j m n vs g f s x y =
@@ -337,10 +346,20 @@ module _ (c w : ℕ) (h : Divisible c w) where
             let i = u.right (length g.left) (length g.right) (omega (arith, o, t)) x y in
             k.passed j m n (omega (arith, i.0, t)) (omega (arith, i.1, t))
 
-pub from_past : (c w : ℕ) → Divisible c w → (z : Sizes) → z.bound ≡ true → (d : ℕ) → d < w → (r : Range) → is_unordered (collection_of c) ≡ true → Rights z (ones (w + 1)) r → r.most < r.least → From c w d z w
-from_past c w h z b d l r q u m = let e : w + 1 - 1 ≡ w = omega arith in subst (From c w d z) e (from_splits c w h z b d l r (w + 1) q u (first_past ones (w + 1) (d + 1) r (omega arith) m))
+-- no split, or no cut, gives the halves what they take
+abbrev nothing_left : Range
+nothing_left = record { least = 1; most = 0 }
+
+pub splits_past : (c w : ℕ) → Divisible c w → (z : Sizes) (d : ℕ) → d < w → is_unordered (collection_of c) ≡ true → Rights z (ones (w + 1)) None → From c w d (Some z) w
+splits_past c w h z d l q u =
+    let e : w + 1 - 1 ≡ w = omega arith in
+    subst (From c w d (Some z)) e (from_splits c w h z d l nothing_left (w + 1) q (none_right z (ones (w + 1)) u) (first_past ones (w + 1) (d + 1) nothing_left (omega arith) (omega arith)))
+
+pub cuts_past : (c w : ℕ) → Divisible c w → (z : Sizes) (d : ℕ) → d < w → c ≡ 40 → Rights z (w - 1) None → From c w d (Some z) w
+cuts_past c w h z d l q u =
+    from_cuts c w h z d l nothing_left w q (none_right z (w - 1) u) (first_past (λ j. w - 1 - j) w d nothing_left (omega arith) (omega arith))
 
 -- ---- the first way that may have a match
 
-pub from_none : (c w d : ℕ) (z : Sizes) → From c w d z d
+pub from_none : (c w d : ℕ) (z : Option Sizes) → From c w d z d
 from_none c w d z = record { low = omega arith; within = λ l. l; barren = λ j l m. absurd (omega arith) }

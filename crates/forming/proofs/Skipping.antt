@@ -62,7 +62,7 @@ half_units k vs j l =
 meetings_two : (c n : ℕ) (v : Value) → Splits c → meetings c n v ≡ map (both_halves (collection_of c)) (split (collection_of c) (contents (collection_of c) v))
 meetings_two c n v u = rw u
 
-module _ (table index : List ℕ) (p : ℕ) (h : Readable table index p) (c : ℕ) (ec : c ≡ kind_at (records table) p) (u : Splits c) where
+module _ (table : List ℕ) (p : ℕ) (h : Readable table p) (c : ℕ) (ec : c ≡ kind_at (records table) p) (u : Splits c) where
   abbrev K : Kind
   K = collection_of c
 
@@ -71,8 +71,8 @@ module _ (table index : List ℕ) (p : ℕ) (h : Readable table index p) (c : �
 
   inner_two : inner_of table p ≡ half 0 ∷ half 1 ∷ []
   inner_two =
-      let two = two_halves table index p h c (sym ec) u in
-      sym (two_of (inner_of table p) (inner_length table index p h ∙ two))
+      let two = two_halves table p h c (sym ec) u in
+      sym (two_of (inner_of table p) (inner_length table p h ∙ two))
       ∙ ap (λ (x : Pattern). x ∷ get_or (inner_of table p) 1 any ∷ []) (map_at (pattern_at (records table)) (operands_of (record_at (records table) p)) 0 0 any (omega (arith, two)))
       ∙ ap (λ (x : Pattern). half 0 ∷ x ∷ []) (map_at (pattern_at (records table)) (operands_of (record_at (records table) p)) 1 0 any (omega (arith, two)))
 
@@ -106,11 +106,11 @@ module _ (table index : List ℕ) (p : ℕ) (h : Readable table index p) (c : �
 
 -- ---- ways that are passed over
 
-module _ (table index : List ℕ) (p : ℕ) (r : Readable table index p) (c : ℕ) (ec : c ≡ kind_at (records table) p) (st : Binding) (z : Sizes) (t : TellsSizes table st p c z) (v : Value) (w : ℕ) (n : length (ways_of table p v) ≡ w) where
+module _ (table : List ℕ) (p : ℕ) (r : Readable table p) (c : ℕ) (ec : c ≡ kind_at (records table) p) (st : Binding) (z : _) (t : TellsSizes table st p c z) (v : Value) (w : ℕ) (n : length (ways_of table p v) ≡ w) where
   pub from_asked : 0 < w → FromHeld c w z
-  from_asked l b =
-      let k = t b in
-      let (vs, q, d) = some_ways table index p r c ec k.splits v w n l in
+  from_asked l y b =
+      let k = t y b in
+      let (vs, q, d) = some_ways table p r c ec k.splits v w n l in
       record { splits = k.splits; values = vs; ways = d }
 
   pub passed_over : length st ≡ names → (ts : List Task) (d e : ℕ) → d ≤ w → From c w d z e → gather (drop e (ways_of table p v)) (one_way (inner_of table p) ts st) ≡ gather (drop d (ways_of table p v)) (one_way (inner_of table p) ts st)
@@ -119,5 +119,5 @@ module _ (table index : List ℕ) (p : ℕ) (r : Readable table index p) (c : �
       let y : e ≤ w = k.within l in
       ap (λ (j : ℕ). gather (drop j (ways_of table p v)) (one_way (inner_of table p) ts st)) (sym x)
       ∙ gather_skip (ways_of table p v) [] (one_way (inner_of table p) ts st) (e - d) d (omega (arith, n, x, y)) (λ j u o.
-      let (bound, none) = k.barren j u (omega (arith, x)) in
-      barren_way table index p r c ec (t bound).splits st sized z (t bound) w j (omega (arith, x, y)) none v n ts)
+      let (y', bound, none) = k.barren j u (omega (arith, x)) in
+      barren_way table p r c ec (t y' bound).splits st sized y' (t y' bound) w j (omega (arith, x, y)) none v n ts)

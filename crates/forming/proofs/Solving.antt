@@ -24,7 +24,8 @@ use Rattle.patterns.specs.Pattern.{Pattern, any, contents, entries_of, arrangeme
 use Rattle.patterns.specs.Read.{patterns_of, pattern_of, pattern_at}
 use Rattle.patterns.proofs.Laws.Nodes.{on_composed}
 use Rattle.patterns.specs.Nodes.{collection_of, is_halved, both_halves, meetings}
-use Rattle.matching.specs.declared.nodes.Meeting.{Meeting}
+use Rattle.std.specs.Prelude.{Result}
+use Rattle.matching.specs.declared.nodes.Misfit.{Misfit}
 use Rattle.matching.specs.Leaf.{Stands}
 use Rattle.matching.specs.Node.{Meets, inner_of, ways_of, met_by}
 use Rattle.matching.proofs.Records.{by_record, inner_length, count_two, recast_meets}
@@ -39,18 +40,18 @@ use Rattle.forming.proofs.Settling.{settled_less, several_more}
 
 -- ---- the agenda
 
-pub some-task : (table index s a : List ℕ) (top head : ℕ) (ts : List Task) → AgendaIs table index s a top head ts → 0 < head
-    → (t : Task) × (us : List Task) × (ts ≡ t ∷ us) × Pending table index s a top head t × AgendaIs table index s a top (get_or a (3 * head + 2) 0) us
-some-task table index s a top head [] h l = absurd (omega (arith, h))
-some-task table index s a top head (t ∷ ts) h l = (t, ts, refl, h.0, h.1)
+pub some-task : (table s a : List ℕ) (top head : ℕ) (ts : List Task) → AgendaIs table s a top head ts → 0 < head
+    → (t : Task) × (us : List Task) × (ts ≡ t ∷ us) × Pending table s a top head t × AgendaIs table s a top (get_or a (3 * head + 2) 0) us
+some-task table s a top head [] h l = absurd (omega (arith, h))
+some-task table s a top head (t ∷ ts) h l = (t, ts, refl, h.0, h.1)
 
-pub no_task : (table index s a : List ℕ) (top head : ℕ) (ts : List Task) → AgendaIs table index s a top head ts → head ≤ 0 → ts ≡ []
-no_task table index s a top head [] h l = refl
-no_task table index s a top head (t ∷ ts) h l = absurd (omega (arith, h.0.some))
+pub no_task : (table s a : List ℕ) (top head : ℕ) (ts : List Task) → AgendaIs table s a top head ts → head ≤ 0 → ts ≡ []
+no_task table s a top head [] h l = refl
+no_task table s a top head (t ∷ ts) h l = absurd (omega (arith, h.0.some))
 
-pub agenda_low : (table index s a : List ℕ) (top head : ℕ) (ts : List Task) → 0 < top → AgendaIs table index s a top head ts → head < top
-agenda_low table index s a top head [] l h = omega (arith, h)
-agenda_low table index s a top head (t ∷ ts) l h = h.0.below
+pub agenda_low : (table s a : List ℕ) (top head : ℕ) (ts : List Task) → 0 < top → AgendaIs table s a top head ts → head < top
+agenda_low table s a top head [] l h = omega (arith, h)
+agenda_low table s a top head (t ∷ ts) l h = h.0.below
 
 -- ---- a pattern with parts
 
@@ -59,7 +60,7 @@ pub falls_on : (top next c head : ℕ) → top + c ≤ entries → head < top + 
 falls_on top next zero head l h e = omega (arith, e refl)
 falls_on top next (suc c) head l h e = omega arith
 
-pub recast_word : (word : ℕ) {c k : ℕ} (kind n : ℕ) (s : List ℕ) (part : Part) (m : Meeting) → kind ≡ c → n ≡ k → part ≡ unpacked word → Meets kind n s part m → Meets c k s (unpacked word) m
+pub recast_word : (word : ℕ) {c k : ℕ} (kind n : ℕ) (s : List ℕ) (part : Part) (m : Result ℕ Misfit) → kind ≡ c → n ≡ k → part ≡ unpacked word → Meets kind n s part m → Meets c k s (unpacked word) m
 recast_word word {c} {k} kind n s part m e d p h = subst (λ (q : Part). Meets c k s q m) p (recast_meets kind n s part m e d h)
 
 pub part_of : (s : List ℕ) (word : ℕ) (part : Part) (v : Value) → part ≡ unpacked word → PartIs s (unpacked word) v → PartHeld s part
@@ -118,32 +119,32 @@ two_parts c n v two h = go (is_halved c) refl h
     go true e l = omega (arith, two e)
     go false e l = not-below n (λ k. absurd (omega (arith, few_met (collection_of c) n (contents (collection_of c) v) k)))
 
-module _ (table index : List ℕ) (p : ℕ) (r : Composed table index p) where
+module _ (table : List ℕ) (p : ℕ) (r : Composed table p) where
   abbrev P : Pattern
   P = pattern_at (records table) p
 
   pub whole : (v : Value) (ts : List Task) (b : Binding) → onward (task P v ∷ ts) b ≡ gather (ways_of table p v) (one_way (inner_of table p) ts b)
   whole v ts b =
-      ap (λ (q : Pattern). onward (task q v ∷ ts) b) (by_record table index p r.readable)
-      ∙ onward_ways (record_at (records table) p) (inner_of table p) r.composed (inner_two table index p r) v ts b
-      ∙ ap (λ (k : ℕ). gather (meetings (kind_at (records table) p) k v) (one_way (inner_of table p) ts b)) (inner_length table index p r.readable)
+      ap (λ (q : Pattern). onward (task q v ∷ ts) b) (by_record table p r.readable)
+      ∙ onward_ways (record_at (records table) p) (inner_of table p) r.composed (inner_two table p r) v ts b
+      ∙ ap (λ (k : ℕ). gather (meetings (kind_at (records table) p) k v) (one_way (inner_of table p) ts b)) (inner_length table p r.readable)
 
   placed_inside : inner P ≡ inner_each (patterns_of (inner_of table p))
-  placed_inside = ap inner (by_record table index p r.readable) ∙ inner_composed (record_at (records table) p) (inner_of table p) r.composed (inner_two table index p r)
+  placed_inside = ap inner (by_record table p r.readable) ∙ inner_composed (record_at (records table) p) (inner_of table p) r.composed (inner_two table p r)
 
   pub several_parts : (v : Value) → 2 ≤ length (ways_of table p v) → 2 ≤ count_of table p
-  several_parts v l = two_parts (kind_at (records table) p) (count_of table p) v (count_two table index p r.readable r.composed) l
+  several_parts v l = two_parts (kind_at (records table) p) (count_of table p) v (count_two table p r.readable r.composed) l
 
   module _ (top : ℕ) (ts : List Task) (room : top + (inner P + spaces ts) ≤ entries) where
     pub count_room : top + count_of table p ≤ entries
-    count_room = omega (arith, room, placed_inside, inner_least (inner_of table p), inner_length table index p r.readable)
+    count_room = omega (arith, room, placed_inside, inner_least (inner_of table p), inner_length table p r.readable)
 
     pub parts_room : (vs : List Value) → top + count_of table p + spaces (zipped (inner_of table p) vs ++ ts) ≤ entries
-    parts_room vs = omega (arith, room, placed_inside, spaces_zipped (inner_of table p) vs ts, inner_length table index p r.readable)
+    parts_room vs = omega (arith, room, placed_inside, spaces_zipped (inner_of table p) vs ts, inner_length table p r.readable)
 
   -- what one way gives
   pub same_way : (v : Value) → WellFormed v → (ts : List Task) (b : Binding) (d : ℕ) → d < length (ways_of table p v) → one_way (inner_of table p) ts b (met_by table p v d) ≡ onward (zipped (inner_of table p) (met_by table p v d) ++ ts) b
-  same_way v fine ts b d l = one_way_lem (inner_of table p) ts b (met_by table p v d) (met_long table index p r v fine d l ∙ sym (inner_length table index p r.readable))
+  same_way v fine ts b d l = one_way_lem (inner_of table p) ts b (met_by table p v d) (met_long table p r v fine d l ∙ sym (inner_length table p r.readable))
 
   -- of a pattern that is only a test one way with a match gives all that the others give
   pub enough : (s words : List ℕ) (b : Binding) → Stands s words b → TellsSettled table p words true → (v : Value) → WellFormed v → (ts : List Task) (vs : List Value) → In vs (ways_of table p v) → (x : Binding) → In x (one_way (inner_of table p) ts b vs)
@@ -156,6 +157,6 @@ module _ (table index : List ℕ) (p : ℕ) (r : Composed table index p) where
       subst (In c) (sym way)
       (several_more s words b st (inner_of table p) vs ts
       (λ n m.
-      let q : n < count_of table p = omega (arith, inner_length table index p r.readable) in
+      let q : n < count_of table p = omega (arith, inner_length table p r.readable) in
       subst (λ (y : Pattern). Settled y words) (sym (map_at (pattern_at (records table)) (operands_of (record_at (records table) p)) n 0 any q)) (t.each refl r.composed n q))
       x (subst (In x) way j) c rest)

@@ -1,9 +1,10 @@
 -- The frames of a stack in an array of bytes, and the names that have a value as bits.
-use Rattle.std.specs.Prelude.{◌≡◌, Bool, cond, ◌⊎◌, List, [], ◌∷◌, ℕ, zero, suc, ◌+◌, ◌-◌, ◌*◌, ◌/◌, ◌^◌, ◌≤◌, ◌<◌, eqb, length, get_or, take, drop}
+use Rattle.std.specs.Prelude.{◌≡◌, cond, ◌⊎◌, List, [], ◌∷◌, ℕ, zero, suc, ◌+◌, ◌-◌, ◌*◌, ◌/◌, ◌^◌, ◌≤◌, ◌<◌, eqb, length, get_or, take, drop, Option, Some, None}
 use Rattle.tables.specs.Check.{most_records}
 use Rattle.patterns.specs.Binding.{names}
 use Rattle.matching.specs.Leaf.{Grown}
 use Rattle.forming.specs.declared.frames.Frame.{Frame}
+use Rattle.forming.specs.declared.sizes.Sizes.{Sizes}
 
 -- Nothing below a place changed.
 abbrev pub KeptBelow : List ℕ → List ℕ → ℕ → Type 0
@@ -18,10 +19,6 @@ agenda_words = 3 * entries
 
 -- ---- frames
 
--- A flag as a byte.
-abbrev pub flag_byte : Bool → ℕ
-flag_byte b = cond b 1 0
-
 -- A frame takes so many bytes, and two of the records of a table at least: so many frames, and bytes of them, are enough.
 abbrev pub frame_bytes : ℕ
 frame_bytes = 18
@@ -31,6 +28,13 @@ most_frames = most_records / 2
 
 abbrev pub frames_bytes : ℕ
 frames_bytes = most_frames * frame_bytes
+
+-- Sizes from their five bytes.
+abbrev pub sizes_of : List ℕ → Option Sizes
+sizes_of b = cond (eqb (get_or b 0 0) 1) (Some (record {
+  left = record { least = get_or b 1 0; more = eqb (get_or b 2 0) 1 };
+  right = record { least = get_or b 3 0; more = eqb (get_or b 4 0) 1 };
+})) None
 
 -- A frame from its bytes.
 abbrev pub frame_of : List ℕ → Frame
@@ -43,11 +47,7 @@ frame_of b = record {
   ways = get_or b 6 0;
   mask = get_or b 7 0 + 256 * get_or b 8 0;
   once = eqb (get_or b 9 0) 1;
-  sizes = record {
-    bound = eqb (get_or b 10 0) 1;
-    left = record { least = get_or b 11 0; more = eqb (get_or b 12 0) 1 };
-    right = record { least = get_or b 13 0; more = eqb (get_or b 14 0) 1 };
-  };
+  sizes = sizes_of (get_or b 10 0 ∷ get_or b 11 0 ∷ get_or b 12 0 ∷ get_or b 13 0 ∷ get_or b 14 0 ∷ []);
   tests = get_or b 15 0;
   since = get_or b 16 0;
   seen = get_or b 5 0;

@@ -7,8 +7,8 @@ use Rattle.patterns.specs.Pattern.{Pattern, name, any, literal, each, halved, Pa
 use Rattle.patterns.specs.Read.{Readable}
 
 -- Record p is a pattern with parts.
-pub record Composed (table index : List ℕ) (p : ℕ) : Type 0 where
-  pub readable : Readable table index p
+pub record Composed (table : List ℕ) (p : ℕ) : Type 0 where
+  pub readable : Readable table p
   pub composed : is_composed (kind_at (records table) p) ≡ true
 
 -- How many parts it has.

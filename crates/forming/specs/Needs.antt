@@ -1,5 +1,5 @@
 -- What the names that have a value ask of a set or map that a pattern meets.
-use Rattle.std.specs.Prelude.{◌≡◌, Bool, true, false, List, ℕ, ◌≤◌, ◌<◌, length, get_or}
+use Rattle.std.specs.Prelude.{◌≡◌, Bool, true, false, List, ℕ, ◌≤◌, ◌<◌, length, get_or, Option, Some, Result, Err}
 use Rattle.prelude.specs.Membership.{In}
 use Rattle.values.specs.Value.{Kind, number, Value, collection}
 use Rattle.tables.specs.Accepted.{records}
@@ -12,8 +12,7 @@ use Rattle.patterns.specs.Nodes.{collection_of}
 use Rattle.patterns.specs.Read.{Readable, pattern_at}
 use Rattle.matching.specs.Leaf.{Stands, Standing}
 use Rattle.matching.specs.Node.{is_split}
-use Rattle.forming.specs.declared.needs.Asked.{Asked}
-use Rattle.forming.specs.declared.needs.Asked.TheVariants.{Nothing, Had, Lacked}
+use Rattle.forming.specs.declared.needs.Lacking.{Lacking}
 use Rattle.forming.specs.Compatible.{Compatible}
 
 -- The pattern matches the value with no values that are compatible with the binding.
@@ -24,13 +23,13 @@ Unmatched b p v = (a : Binding) → Matches p v a → Compatible b a → ⊥
 abbrev pub Lacks : Binding → Kind → Pattern → List Value → Type 0
 Lacks b k p vs = (ts : List Value) → ((t : Value) → In t ts → In t vs) → Unmatched b p (collection k (items_of ts))
 
--- Where r is not 0, kind r splits sets or maps, as the kind of this number says.
-abbrev pub UnionOf : ℕ → ℕ → Type 0
-UnionOf kind r = (r ≡ 0 → ⊥) → (is_split r ≡ true) × (kind ≡ number (collection_of r))
+-- The kind c, where there is one, splits sets or maps, as the kind of this number says.
+abbrev pub UnionOf : ℕ → Option ℕ → Type 0
+UnionOf kind r = (c : ℕ) → r ≡ Some c → (is_split c ≡ true) × (kind ≡ number (collection_of c))
 
 -- A pattern, and what is found, in a slice whose places fit.
-pub record AskHeld (table index : List ℕ) (p : ℕ) (s found : List ℕ) : Type 0 where
-  pub readable : Readable table index p
+pub record AskHeld (table : List ℕ) (p : ℕ) (s found : List ℕ) : Type 0 where
+  pub readable : Readable table p
   pub short : length s ≤ 65536
   pub standing : Standing s found
 
@@ -44,21 +43,15 @@ NoneMatch table p c s part found =
     (vs : List Value) (b : Binding) → PartIs s part (collection (collection_of c) (items_of vs)) → Stands s found b → Lacks b (collection_of c) (pattern_at (records table) p) vs
 
 -- An item that is lacked ends it; the other answers promise nothing.
-abbrev pub TellsAsked : List ℕ → ℕ → List ℕ → Part → List ℕ → Asked → Type 0
-TellsAsked table p s part found r = r ≡ Lacked → NoMatch table p s part found
+abbrev pub TellsAsked : List ℕ → ℕ → List ℕ → Part → List ℕ → Result Bool Lacking → Type 0
+TellsAsked table p s part found r = (e : Lacking) → r ≡ Err e → NoMatch table p s part found
 
-abbrev pub TellsLacked : List ℕ → ℕ → ℕ → List ℕ → Part → List ℕ → Asked → Type 0
-TellsLacked table p c s part found r = r ≡ Lacked → NoneMatch table p c s part found
+abbrev pub TellsLacked : List ℕ → ℕ → ℕ → List ℕ → Part → List ℕ → Result Bool Lacking → Type 0
+TellsLacked table p c s part found r = (e : Lacking) → r ≡ Err e → NoneMatch table p c s part found
 
 abbrev pub TellsFit : List ℕ → ℕ → List ℕ → Part → List ℕ → Bool → Type 0
 TellsFit table p s part found r = r ≡ false → NoMatch table p s part found
 
--- Items were asked for, and the set or map has them.
-abbrev pub is_had : Asked → Bool
-is_had Nothing = false
-is_had Had = true
-is_had Lacked = false
-
--- Where r is not 0, the pattern is a name and r is its word.
-abbrev pub WordAt : List ℕ → ℕ → List ℕ → ℕ → Type 0
-WordAt table p found r = (r ≡ 0 → ⊥) → (x : ℕ) × (x < names) × (pattern_at (records table) p ≡ name x) × (r ≡ get_or found x 0)
+-- The pattern is a name, and w is its word.
+abbrev pub WordAt : List ℕ → ℕ → List ℕ → Option ℕ → Type 0
+WordAt table p found r = (w : ℕ) → r ≡ Some w → (w ≡ 0 → ⊥) × (x : ℕ) × (x < names) × (pattern_at (records table) p ≡ name x) × (w ≡ get_or found x 0)

@@ -1,5 +1,5 @@
 -- The agenda as a list linked through an array, and what the functions that go through it ask and promise.
-use Rattle.std.specs.Prelude.{◌≡◌, true, false, cond, List, [], ◌∷◌, ◌++◌, ℕ, ◌+◌, ◌*◌, ◌/◌, ◌%◌, ◌≤◌, ◌<◌, eqb, length, get_or}
+use Rattle.std.specs.Prelude.{◌≡◌, true, false, cond, List, [], ◌∷◌, ◌++◌, ℕ, ◌+◌, ◌*◌, ◌/◌, ◌%◌, ◌≤◌, ◌<◌, eqb, length, get_or, Option, Some, None}
 use Rattle.values.specs.Value.{Value, boolean}
 use Rattle.tables.specs.Record.{is_composed}
 use Rattle.tables.specs.Table.{kind_at}
@@ -21,19 +21,19 @@ use Rattle.forming.specs.Onward.{Task, task, onward, zipped}
 use Rattle.forming.specs.Frames.{KeptBelow, entries, agenda_words}
 
 -- An entry of three numbers: the record of the pattern, the part that it meets, and the entry that follows, a lower one.
-pub record Pending (table index s a : List ℕ) (top head : ℕ) (t : Task) : Type 0 where
+pub record Pending (table s a : List ℕ) (top head : ℕ) (t : Task) : Type 0 where
   pub some : 0 < head
   pub below : head < top
   pub falls : get_or a (3 * head + 2) 0 < head
-  pub readable : Readable table index (get_or a (3 * head) 0)
+  pub readable : Readable table (get_or a (3 * head) 0)
   pub pattern : t.what ≡ pattern_at (records table) (get_or a (3 * head) 0)
   pub here : PartIs s (unpacked (get_or a (3 * head + 1) 0)) t.value
   pub narrow : wide t.what t.value ≡ false
 
 -- The entries from head on are the tasks.
-abbrev pub AgendaIs : List ℕ → List ℕ → List ℕ → List ℕ → ℕ → ℕ → List Task → Type 0
-AgendaIs table index s a top head [] = head ≡ 0
-AgendaIs table index s a top head (t ∷ ts) = Pending table index s a top head t × AgendaIs table index s a top (get_or a (3 * head + 2) 0) ts
+abbrev pub AgendaIs : List ℕ → List ℕ → List ℕ → ℕ → ℕ → List Task → Type 0
+AgendaIs table s a top head [] = head ≡ 0
+AgendaIs table s a top head (t ∷ ts) = Pending table s a top head t × AgendaIs table s a top (get_or a (3 * head + 2) 0) ts
 
 -- The entries that the tasks may need.
 abbrev pub spaces : List Task → ℕ
@@ -43,8 +43,8 @@ spaces (t ∷ ts) = inner t.what + spaces ts
 -- ---- the parts of a pattern put before the rest
 
 -- There is room for so many parts of a pattern, each with what it meets in the way d.
-pub record Pushable (table index : List ℕ) (p : ℕ) (s : List ℕ) (part : Part) (d : ℕ) (a : List ℕ) (next top count : ℕ) : Type 0 where
-  pub composed : Composed table index p
+pub record Pushable (table : List ℕ) (p : ℕ) (s : List ℕ) (part : Part) (d : ℕ) (a : List ℕ) (next top count : ℕ) : Type 0 where
+  pub composed : Composed table p
   pub short : length s ≤ 65536
   pub value : Value
   pub here : PartIs s part value
@@ -54,32 +54,32 @@ pub record Pushable (table index : List ℕ) (p : ℕ) (s : List ℕ) (part : Pa
   pub room : top + count ≤ entries
   pub long : length a ≡ agenda_words
 
-pub record PartPushable (table index : List ℕ) (p k n : ℕ) (s : List ℕ) (part : Part) (d i : ℕ) (a : List ℕ) (next top : ℕ) : Type 0 where
-  pub held : Pushable table index p s part d a next top 1
+pub record PartPushable (table : List ℕ) (p k n : ℕ) (s : List ℕ) (part : Part) (d i : ℕ) (a : List ℕ) (next top : ℕ) : Type 0 where
+  pub held : Pushable table p s part d a next top 1
   pub of_kind : k ≡ kind_at (records table) p
   pub counted : n ≡ count_of table p
   pub within : i < count_of table p
 
 -- Part i stands before the rest.
-pub record PartPushed (table index : List ℕ) (p : ℕ) (s : List ℕ) (part : Part) (d i : ℕ) (a : List ℕ) (next top : ℕ) (b : List ℕ) : Type 0 where
+pub record PartPushed (table : List ℕ) (p : ℕ) (s : List ℕ) (part : Part) (d i : ℕ) (a : List ℕ) (next top : ℕ) (b : List ℕ) : Type 0 where
   pub kept : KeptBelow a b (3 * top)
   pub long : length b ≡ length a
-  pub right : (v : Value) (ts : List Task) → PartIs s part v → wide (pattern_at (records table) p) v ≡ false → AgendaIs table index s a top next ts
-      → AgendaIs table index s b (top + 1) top (task (get_or (inner_of table p) i any) (get_or (met_by table p v d) i (boolean true)) ∷ ts)
+  pub right : (v : Value) (ts : List Task) → PartIs s part v → wide (pattern_at (records table) p) v ≡ false → AgendaIs table s a top next ts
+      → AgendaIs table s b (top + 1) top (task (get_or (inner_of table p) i any) (get_or (met_by table p v d) i (boolean true)) ∷ ts)
 
 -- Part i meets the piece in some way, and there is room for it.
-pub record PiecePushable (table index : List ℕ) (p i : ℕ) (s : List ℕ) (piece : Part) (a : List ℕ) (next top : ℕ) : Type 0 where
+pub record PiecePushable (table : List ℕ) (p i : ℕ) (s : List ℕ) (piece : Part) (a : List ℕ) (next top : ℕ) : Type 0 where
   pub kind : ℕ
   pub count : ℕ
   pub part : Part
   pub way : ℕ
-  pub held : PartPushable table index p kind count s part way i a next top
+  pub held : PartPushable table p kind count s part way i a next top
   pub meets : PieceOf kind count s part way i piece
 
 -- In whatever way it does, part i stands before the rest.
-abbrev pub PiecePushed : List ℕ → List ℕ → ℕ → ℕ → List ℕ → Part → List ℕ → ℕ → ℕ → List ℕ → Type 0
-PiecePushed table index p i s piece a next top b =
-    (k n : ℕ) (part : Part) (d : ℕ) → PartPushable table index p k n s part d i a next top → PieceOf k n s part d i piece → PartPushed table index p s part d i a next top b
+abbrev pub PiecePushed : List ℕ → ℕ → ℕ → List ℕ → Part → List ℕ → ℕ → ℕ → List ℕ → Type 0
+PiecePushed table p i s piece a next top b =
+    (k n : ℕ) (part : Part) (d : ℕ) → PartPushable table p k n s part d i a next top → PieceOf k n s part d i piece → PartPushed table p s part d i a next top b
 
 -- The units whose bit is b, the first unit's bit being the lowest.
 unfoldable pub with_bit : {A : Type 0} → ℕ → ℕ → List A → List A
@@ -91,59 +91,59 @@ abbrev pub how_many : List ℕ → ℕ → ℕ → ℕ → ℕ
 how_many table p bits bit = length (with_bit bits bit (inner_of table p))
 
 -- The parts that have the bit stand before the rest.
-pub record PushedWhere (table index : List ℕ) (p : ℕ) (s : List ℕ) (part : Part) (d : ℕ) (a : List ℕ) (next top bits bit : ℕ) (b : List ℕ) (r : Queue) : Type 0 where
+pub record PushedWhere (table : List ℕ) (p : ℕ) (s : List ℕ) (part : Part) (d : ℕ) (a : List ℕ) (next top bits bit : ℕ) (b : List ℕ) (r : Queue) : Type 0 where
   pub ends : r.top ≡ top + how_many table p bits bit
   pub low : r.head < r.top
   pub none : r.top ≡ top → r.head ≡ next
   pub kept : KeptBelow a b (3 * top)
   pub long : length b ≡ length a
-  pub right : (v : Value) (ts : List Task) → PartIs s part v → wide (pattern_at (records table) p) v ≡ false → AgendaIs table index s a top next ts
-      → AgendaIs table index s b r.top r.head (with_bit bits bit (zipped (inner_of table p) (met_by table p v d)) ++ ts)
+  pub right : (v : Value) (ts : List Task) → PartIs s part v → wide (pattern_at (records table) p) v ≡ false → AgendaIs table s a top next ts
+      → AgendaIs table s b r.top r.head (with_bit bits bit (zipped (inner_of table p) (met_by table p v d)) ++ ts)
 
 -- All parts do, the tests first.
 abbrev pub tests_first : ℕ → List Task → List Task → List Task
 tests_first tests parts ts = with_bit tests 1 parts ++ (with_bit tests 0 parts ++ ts)
 
-pub record Pushed (table index : List ℕ) (p : ℕ) (s : List ℕ) (part : Part) (d : ℕ) (a : List ℕ) (next top tests : ℕ) (b : List ℕ) (r : ℕ) : Type 0 where
+pub record Pushed (table : List ℕ) (p : ℕ) (s : List ℕ) (part : Part) (d : ℕ) (a : List ℕ) (next top tests : ℕ) (b : List ℕ) (r : ℕ) : Type 0 where
   pub low : r < top + count_of table p
   pub none : count_of table p ≡ 0 → r ≡ next
   pub kept : KeptBelow a b (3 * top)
   pub long : length b ≡ length a
-  pub right : (v : Value) (ts : List Task) → PartIs s part v → wide (pattern_at (records table) p) v ≡ false → AgendaIs table index s a top next ts
-      → AgendaIs table index s b (top + count_of table p) r (tests_first tests (zipped (inner_of table p) (met_by table p v d)) ts)
+  pub right : (v : Value) (ts : List Task) → PartIs s part v → wide (pattern_at (records table) p) v ≡ false → AgendaIs table s a top next ts
+      → AgendaIs table s b (top + count_of table p) r (tests_first tests (zipped (inner_of table p) (met_by table p v d)) ts)
 
 -- ---- leaves taken off an agenda
 
 -- An entry with parts that waits, or none.
-abbrev pub WaitsAre : List ℕ → List ℕ → List ℕ → List ℕ → ℕ → ℕ → List Task → Type 0
-WaitsAre table index s a top wait [] = wait ≡ 0
-WaitsAre table index s a top wait (t ∷ []) = Pending table index s a top wait t × (is_composed (kind_at (records table) (get_or a (3 * wait) 0)) ≡ true)
-WaitsAre table index s a top wait (t ∷ u ∷ ts) = ⊥
+abbrev pub WaitsAre : List ℕ → List ℕ → List ℕ → ℕ → ℕ → List Task → Type 0
+WaitsAre table s a top wait [] = wait ≡ 0
+WaitsAre table s a top wait (t ∷ []) = Pending table s a top wait t × (is_composed (kind_at (records table) (get_or a (3 * wait) 0)) ≡ true)
+WaitsAre table s a top wait (t ∷ u ∷ ts) = ⊥
 
 -- What is left of the tasks ts, going on from b: the one that waits, and those from head on, with what is found now.
-pub record LeftOf (table index s a : List ℕ) (top wait head : ℕ) (found : List ℕ) (ts : List Task) (b : Binding) : Type 0 where
+pub record LeftOf (table s a : List ℕ) (top wait head : ℕ) (found : List ℕ) (ts : List Task) (b : Binding) : Type 0 where
   pub waits : List Task
   pub tasks : List Task
   pub binding : Binding
-  pub waits_are : WaitsAre table index s a top wait waits
-  pub are : AgendaIs table index s a top head tasks
+  pub waits_are : WaitsAre table s a top wait waits
+  pub are : AgendaIs table s a top head tasks
   pub stands : Stands s found binding
   pub alike : Alike (onward ts b) (onward (waits ++ tasks) binding)
   pub room : spaces (waits ++ tasks) ≤ spaces ts
 
-pub record TakeHeld (table index s a : List ℕ) (head : ℕ) (found : List ℕ) : Type 0 where
+pub record TakeHeld (table s a : List ℕ) (head : ℕ) (found : List ℕ) : Type 0 where
   pub top : ℕ
   pub tasks : List Task
-  pub are : AgendaIs table index s a top head tasks
+  pub are : AgendaIs table s a top head tasks
   pub low : 0 < top
   pub room : top ≤ entries
   pub binding : Binding
   pub stands : Stands s found binding
   pub short : length s ≤ 65536
 
-pub record Taken (table index s a : List ℕ) (head : ℕ) (found after : List ℕ) (r : Left) : Type 0 where
-  pub falls : 0 < r.wait → r.head < head
+pub record Taken (table s a : List ℕ) (head : ℕ) (found after : List ℕ) (r : Option Left) : Type 0 where
+  pub falls : (l : Left) → r ≡ Some l → 0 < l.wait → l.head < head
   pub stays : Grown found after
-  pub ends : r.fits ≡ true → r.wait ≡ 0 → r.head ≡ 0
-  pub none : r.fits ≡ false → (top : ℕ) (ts : List Task) (b : Binding) → AgendaIs table index s a top head ts → Stands s found b → Alike (onward ts b) []
-  pub some : r.fits ≡ true → (top : ℕ) (ts : List Task) (b : Binding) → AgendaIs table index s a top head ts → Stands s found b → LeftOf table index s a top r.wait r.head after ts b
+  pub ends : (l : Left) → r ≡ Some l → l.wait ≡ 0 → l.head ≡ 0
+  pub none : r ≡ None → (top : ℕ) (ts : List Task) (b : Binding) → AgendaIs table s a top head ts → Stands s found b → Alike (onward ts b) []
+  pub some : (l : Left) → r ≡ Some l → (top : ℕ) (ts : List Task) (b : Binding) → AgendaIs table s a top head ts → Stands s found b → LeftOf table s a top l.wait l.head after ts b

@@ -33,19 +33,19 @@ TellsAll table p r = r ≡ true → AcceptsAll (pattern_at (records table) p)
 abbrev pub TellsMore : List ℕ → ℕ → ℕ → Bool → Type 0
 TellsMore table p side r = r ≡ true → TakesMore side (pattern_at (records table) p)
 
-pub record SpareHeld (table index : List ℕ) (p side : ℕ) : Type 0 where
-  pub readable : Readable table index p
+pub record SpareHeld (table : List ℕ) (p side : ℕ) : Type 0 where
+  pub readable : Readable table p
   pub of_kind : kind_at (records table) p ≡ 40
   pub low : side < 2
 
 -- Record r has the same bindings as p, with no more parts.
-pub record Reduced (table index : List ℕ) (p r : ℕ) : Type 0 where
-  pub composed : Composed table index r
+pub record Reduced (table : List ℕ) (p r : ℕ) : Type 0 where
+  pub composed : Composed table r
   pub low : r ≤ p
   pub alike : (v : Value) → Alike (matches (pattern_at (records table) p) v) (matches (pattern_at (records table) r) v)
   pub narrow : (v : Value) → wide (pattern_at (records table) p) v ≡ false → wide (pattern_at (records table) r) v ≡ false
   pub fewer : inner (pattern_at (records table) r) ≤ inner (pattern_at (records table) p)
 
 -- The half beside the one at this side is left.
-abbrev pub TellsSpare : List ℕ → List ℕ → ℕ → ℕ → Bool → Type 0
-TellsSpare table index p side r = r ≡ true → Reduced table index p (operand (record_at (records table) p) (1 - side))
+abbrev pub TellsSpare : List ℕ → ℕ → ℕ → Bool → Type 0
+TellsSpare table p side r = r ≡ true → Reduced table p (operand (record_at (records table) p) (1 - side))

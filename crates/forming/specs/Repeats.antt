@@ -25,13 +25,13 @@ abbrev pub TellsAny : List ℕ → ℕ → Bool → Type 0
 TellsAny table p r = r ≡ holds_any (pattern_at (records table) p)
 
 -- An entry of an agenda, and the frames of a stack, of patterns and rows that are there.
-pub record RepeatHeld (table index a : List ℕ) (at : ℕ) (frames : List ℕ) (depth : ℕ) : Type 0 where
+pub record RepeatHeld (table a : List ℕ) (at : ℕ) (frames : List ℕ) (depth : ℕ) : Type 0 where
   pub long : length a ≡ agenda_words
   pub below : at < entries
-  pub waits : Readable table index (get_or a (3 * at) 0)
+  pub waits : Readable table (get_or a (3 * at) 0)
   pub few : depth ≤ most_frames
   pub frames_long : length frames ≡ frames_bytes
-  pub readable : (j : ℕ) → j < depth → Readable table index (frame_at frames j).p
+  pub readable : (j : ℕ) → j < depth → Readable table (frame_at frames j).p
   pub low : (j : ℕ) → j < depth → (frame_at frames j).seen ≤ most_bindings
 
 -- Each name of the pattern of some frame has a value, and a row of a way of it that was gone through agrees with what is found.

@@ -1,13 +1,12 @@
 -- Bindings as rows of packed parts, in order by an array of row numbers.
-use Rattle.std.specs.Prelude.{◌≡◌, true, false, List, ◌∷◌, ◌++◌, ℕ, suc, ◌+◌, ◌*◌, ◌%◌, ◌≤◌, ◌<◌, length, get_or, take, drop}
+use Rattle.std.specs.Prelude.{◌≡◌, List, ◌∷◌, ◌++◌, ℕ, suc, ◌+◌, ◌*◌, ◌%◌, ◌≤◌, ◌<◌, length, get_or, take, drop, Result, Ok, Err}
 use Rattle.parts.specs.Part.{CellIs}
 use Rattle.parts.specs.Word.{unpacked}
 use Rattle.patterns.specs.Binding.{Binding, names, nothing, cell_of, place, sorted}
 use Rattle.patterns.specs.Binder.{most_bindings}
 use Rattle.matching.specs.Leaf.{Stands}
-use Rattle.forming.specs.declared.rows.Seek.{Seek}
-use Rattle.forming.specs.declared.Formed.{Formed}
-use Rattle.forming.specs.declared.Formed.TheVariants.{Number, Refused}
+use Rattle.prelude.specs.declared.Refusal.{Refusal}
+use Rattle.prelude.specs.declared.Refusal.TheVariants.{TooManyBindings}
 
 -- The words of all rows: one for each name of each binding.
 abbrev pub rows_words : ℕ
@@ -49,13 +48,12 @@ pub record RowsAre (s rows order : List ℕ) (n : ℕ) (bs : List Binding) : Typ
 abbrev pub RowsHeld : List ℕ → List ℕ → List ℕ → ℕ → Type 0
 RowsHeld s rows order n = (bs : List Binding) × RowsAre s rows order n bs
 
--- The place of a binding among the rows.
-pub record SoughtIn (b : Binding) (bs : List Binding) (n : ℕ) (r : Seek) : Type 0 where
-  pub within : r.at ≤ n
-  pub there : r.there ≡ true → place b bs ≡ bs
-  pub new : r.there ≡ false → place b bs ≡ take r.at bs ++ (b ∷ drop r.at bs)
+-- The place of a binding among the rows: it stands there, or belongs there.
+abbrev pub SoughtIn : Binding → List Binding → ℕ → Result ℕ ℕ → Type 0
+SoughtIn b bs n (Ok k) = (k < n) × (place b bs ≡ bs)
+SoughtIn b bs n (Err k) = (k ≤ n) × (place b bs ≡ take k bs ++ (b ∷ drop k bs))
 
-abbrev pub Sought : List ℕ → List ℕ → List ℕ → List ℕ → ℕ → Seek → Type 0
+abbrev pub Sought : List ℕ → List ℕ → List ℕ → List ℕ → ℕ → Result ℕ ℕ → Type 0
 Sought s m rows order n r = (b : Binding) (bs : List Binding) → Stands s m b → RowsAre s rows order n bs → SoughtIn b bs n r
 
 -- Row r was written, and nothing before it changed.
@@ -78,9 +76,9 @@ pub record EntryHeld (s : List ℕ) (m : List ℕ) (rows order : List ℕ) (n : 
   pub are : RowsAre s rows order n bindings
 
 -- The bindings were entered, or they are too many.
-abbrev pub Entered : List ℕ → List ℕ → List ℕ → List Binding → Formed → Type 0
-Entered s rows order bs (Number n) = RowsAre s rows order n bs
-Entered s rows order bs (Refused k) = (k ≡ 30) × (most_bindings < length bs)
+abbrev pub Entered : List ℕ → List ℕ → List ℕ → List Binding → Result ℕ Refusal → Type 0
+Entered s rows order bs (Ok n) = RowsAre s rows order n bs
+Entered s rows order bs (Err k) = (k ≡ TooManyBindings) × (most_bindings < length bs)
 
 -- The first n rows are as they were, and any other up to k stands for the binding.
 pub record Appended (s m rows : List ℕ) (n : ℕ) (rows' : List ℕ) (k : ℕ) : Type 0 where
@@ -88,6 +86,6 @@ pub record Appended (s m rows : List ℕ) (n : ℕ) (rows' : List ℕ) (k : ℕ)
   pub kept : (j : ℕ) → j < names * n → get_or rows' j 0 ≡ get_or rows j 0
   pub new : (r : ℕ) → n ≤ r → r < k → (b : Binding) → Stands s m b → RowIs s rows' r b
 
-pub record Entry (s m rows order : List ℕ) (n : ℕ) (rows' order' : List ℕ) (r : Formed) : Type 0 where
+pub record Entry (s m rows order : List ℕ) (n : ℕ) (rows' order' : List ℕ) (r : Result ℕ Refusal) : Type 0 where
   pub right : (b : Binding) (bs : List Binding) → Stands s m b → RowsAre s rows order n bs → Entered s rows' order' (place b bs) r
-  pub appended : (k : ℕ) → r ≡ Number k → Appended s m rows n rows' k
+  pub appended : (k : ℕ) → r ≡ Ok k → Appended s m rows n rows' k

@@ -1,5 +1,5 @@
 -- How many units a pattern takes, members, entries or items, and the ways that give its halves so many.
-use Rattle.std.specs.Prelude.{◌≡◌, true, false, cond, List, [], ℕ, ◌+◌, ◌-◌, ◌≤◌, ◌<◌, eqb, length, get_or}
+use Rattle.std.specs.Prelude.{◌≡◌, true, false, cond, List, [], ℕ, ◌+◌, ◌-◌, ◌≤◌, ◌<◌, eqb, length, get_or, Option, Some, None}
 use Rattle.std.specs.Int.Count.{ones}
 use Rattle.values.specs.Value.{Kind, Value, collection}
 use Rattle.tables.specs.Record.{operand}
@@ -51,8 +51,8 @@ pub record Sum (l r z : Size) : Type 0 where
 
 -- ---- the halves of a pattern of kind c
 
-pub record HalvesHeld (table index : List ℕ) (p c : ℕ) : Type 0 where
-  pub readable : Readable table index p
+pub record HalvesHeld (table : List ℕ) (p c : ℕ) : Type 0 where
+  pub readable : Readable table p
   pub of_kind : kind_at (records table) p ≡ c
 
 pub record HalvesTake (table : List ℕ) (b : Binding) (p c : ℕ) (z : Sizes) : Type 0 where
@@ -60,15 +60,20 @@ pub record HalvesTake (table : List ℕ) (b : Binding) (p c : ℕ) (z : Sizes) :
   pub left : TellsSize table b (operand (record_at (records table) p) 0) c z.left
   pub right : TellsSize table b (operand (record_at (records table) p) 1) c z.right
 
-abbrev pub TellsSizes : List ℕ → Binding → ℕ → ℕ → Sizes → Type 0
-TellsSizes table b p c z = z.bound ≡ true → HalvesTake table b p c z
+abbrev pub TellsSizes : List ℕ → Binding → ℕ → ℕ → Option Sizes → Type 0
+TellsSizes table b p c z = (y : Sizes) → z ≡ Some y → HalvesTake table b p c y
 
 -- ---- how many the right half has in a way
 
 -- The right half has from the least to the most of the range of n units, where both halves have such sizes.
-pub record Rights (z : Sizes) (n : ℕ) (r : Range) : Type 0 where
+pub record RightsIn (z : Sizes) (n : ℕ) (r : Range) : Type 0 where
   pub low : r.most ≤ n
   pub right : (i j : ℕ) → i + j ≡ n → Sized z.left i → Sized z.right j → (r.least ≤ j) × (j ≤ r.most)
+
+-- Or there is no such number.
+abbrev pub Rights : Sizes → ℕ → Option Range → Type 0
+Rights z n (Some r) = RightsIn z n r
+Rights z n None = (i j : ℕ) → i + j ≡ n → Sized z.left i → Sized z.right j → ⊥
 
 -- The ways from d up to e of w ways do not give the right half so many, where way j gives it f j.
 pub record FirstOf (f : ℕ → ℕ) (w d : ℕ) (r : Range) (e : ℕ) : Type 0 where
@@ -100,10 +105,10 @@ pub record Divisible (c w : ℕ) : Type 0 where
   pub values : List Value
   pub ways : length (divisions (collection_of c) values) ≡ w
 
-abbrev pub FromHeld : ℕ → ℕ → Sizes → Type 0
-FromHeld c w z = z.bound ≡ true → Divisible c w
+abbrev pub FromHeld : ℕ → ℕ → Option Sizes → Type 0
+FromHeld c w z = (y : Sizes) → z ≡ Some y → Divisible c w
 
-pub record From (c w d : ℕ) (z : Sizes) (r : ℕ) : Type 0 where
+pub record From (c w d : ℕ) (z : Option Sizes) (r : ℕ) : Type 0 where
   pub low : d ≤ r
   pub within : d ≤ w → r ≤ w
-  pub barren : (j : ℕ) → d ≤ j → j < r → (z.bound ≡ true) × Barren (collection_of c) w z j
+  pub barren : (j : ℕ) → d ≤ j → j < r → (y : Sizes) × (z ≡ Some y) × Barren (collection_of c) w y j

@@ -1,7 +1,7 @@
 // A stack of frames in an array of bytes. A frame is a pattern with parts whose ways are gone through. While the last of its ways is gone
 // through it is on the stack no more: so those that are have two parts or more, which take two entries of the agenda.
 ghost use Rattle.std.specs.Prelude.{◌≡◌, ◌+◌, ◌*◌, ◌<◌, length};
-ghost use Rattle.forming.specs.Frames.{frame_bytes, most_frames, frames_bytes, flag_byte, slot_at, frame_of, frame_at, onto, FrameFits, SlotPut, Stored, Advanced};
+ghost use Rattle.forming.specs.Frames.{frame_bytes, most_frames, frames_bytes, sizes_of, slot_at, frame_of, frame_at, onto, FrameFits, SlotPut, Stored, Advanced};
 
 use crate::sizes::{Size, Sizes};
 use tables::MOST_RECORDS;
@@ -13,6 +13,8 @@ const MOST_FRAMES: usize = MOST_RECORDS / 2;
 const FRAME_BYTES: usize = 18;
 
 pub type Bytes = [u8; FRAME_BYTES];
+
+type SizesBytes = [u8; 5];
 
 // The bytes of all frames.
 pub const FRAMES_BYTES: usize = MOST_FRAMES * FRAME_BYTES;
@@ -33,7 +35,7 @@ pub struct Frame {
     pub ways: usize,
     pub mask: usize,
     pub once: bool,
-    pub sizes: Sizes,
+    pub sizes: Option<Sizes>,
     pub tests: usize,
     pub since: usize,
     pub seen: usize,
@@ -46,41 +48,34 @@ fn slot(frames: &Frames, i: usize) -> Bytes
     ensures { result ≡ slot_at frames.now i }
 {
     let mut bytes = [0u8; FRAME_BYTES];
-    let mut j = 0;
-    while j < FRAME_BYTES {
-        let b = frames[FRAME_BYTES * i + j];
-        bytes[j] = b;
-        j += 1;
-    }
+    bytes.copy_from_slice(&frames[FRAME_BYTES * i..FRAME_BYTES * (i + 1)]);
     bytes
 }
 
-// A byte as a number.
-fn wide(x: u8) -> usize
-    ensures { (result ≡ x) × (result < 256) }
+// The sizes from their five bytes: whether there are any, and of each half how many at least and whether there may be more.
+fn sizes_of(b: SizesBytes) -> Option<Sizes>
+    ensures { result ≡ sizes_of b }
 {
-    x as usize
+    if b[0] != 1 {
+        return None;
+    }
+    Some(Sizes {
+        left: Size {
+            least: b[1],
+            more: b[2] == 1,
+        },
+        right: Size {
+            least: b[3],
+            more: b[4] == 1,
+        },
+    })
 }
 
 // A frame from its bytes.
 fn frame_of(b: Bytes) -> Frame
     ensures { result ≡ frame_of b }
 {
-    let left = Size {
-        least: b[11],
-        more: b[12] == 1,
-    };
-    let right = Size {
-        least: b[13],
-        more: b[14] == 1,
-    };
-    let sizes = Sizes {
-        bound: b[10] == 1,
-        left,
-        right,
-    };
-    let low = wide(b[7]);
-    let high = wide(b[8]);
+    let sizes = sizes_of([b[10], b[11], b[12], b[13], b[14]]);
     Frame {
         p: b[0] as usize,
         at: b[1] as usize,
@@ -88,7 +83,7 @@ fn frame_of(b: Bytes) -> Frame
         top: b[3] as usize,
         way: b[4] as usize,
         ways: b[6] as usize,
-        mask: low + 256 * high,
+        mask: b[7] as usize + 256 * b[8] as usize,
         once: b[9] == 1,
         sizes,
         tests: b[15] as usize,
@@ -112,18 +107,23 @@ pub fn top_of(frames: &Frames, i: usize) -> usize
     requires { (i < most_frames) × (length frames.now ≡ frames_bytes) }
     ensures { result ≡ (frame_at frames.now i).top }
 {
-    let top = frames[FRAME_BYTES * i + 3];
-    wide(top)
+    frames[FRAME_BYTES * i + 3] as usize
 }
 
-// A flag as a byte.
-fn flag(b: bool) -> u8
-    ensures { result ≡ flag_byte b }
+// The five bytes of sizes.
+fn bytes_of_sizes(sizes: Option<Sizes>) -> SizesBytes
+    ensures { (sizes_of result ≡ sizes) × (length result ≡ 5) }
 {
-    if b {
-        return 1;
-    }
-    0
+    let Some(z) = sizes else {
+        return [0; 5];
+    };
+    [
+        1,
+        z.left.least,
+        u8::from(z.left.more),
+        z.right.least,
+        u8::from(z.right.more),
+    ]
 }
 
 // The bytes of a frame.
@@ -131,12 +131,7 @@ fn bytes_of(f: Frame) -> Bytes
     requires { FrameFits f }
     ensures { (frame_of result ≡ f) × (length result ≡ frame_bytes) }
 {
-    let z = f.sizes;
-    let once = flag(f.once);
-    let bound = flag(z.bound);
-    let left = flag(z.left.more);
-    let right = flag(z.right.more);
-    let asks = flag(f.asks);
+    let z = bytes_of_sizes(f.sizes);
     [
         f.p as u8,
         f.at as u8,
@@ -147,15 +142,15 @@ fn bytes_of(f: Frame) -> Bytes
         f.ways as u8,
         (f.mask % 256) as u8,
         (f.mask / 256 % 256) as u8,
-        once,
-        bound,
-        z.left.least,
-        left,
-        z.right.least,
-        right,
+        u8::from(f.once),
+        z[0],
+        z[1],
+        z[2],
+        z[3],
+        z[4],
         f.tests as u8,
         f.since as u8,
-        asks,
+        u8::from(f.asks),
     ]
 }
 
@@ -164,12 +159,7 @@ fn put_slot(frames: &mut Frames, i: usize, bytes: Bytes)
     requires { (i < most_frames) × (length frames.old ≡ frames_bytes) × (length bytes ≡ frame_bytes) }
     ensures { SlotPut frames.old i bytes frames.new }
 {
-    let mut j = 0;
-    while j < FRAME_BYTES {
-        let b = bytes[j];
-        frames[FRAME_BYTES * i + j] = b;
-        j += 1;
-    }
+    frames[FRAME_BYTES * i..FRAME_BYTES * (i + 1)].copy_from_slice(&bytes);
 }
 
 // Writes frame i.

@@ -24,13 +24,12 @@ ghost use Rattle.forming.specs.Pending.{Pushable, PartPushable, PartPushed, Piec
 ghost use Rattle.forming.specs.Stack.{OpenHeld, Opened, MatchEntered, DownHeld, WentDown, BackHeld, WentBack, FinishHeld, Finished, Solvable, Solved};
 
 use crate::frames::{Frame, Frames};
-use crate::needs::Asked;
 use matching::nodes;
-use matching::nodes::Meeting;
 use parts::words::Env;
-use parts::{Part, words};
-use tables::reading::{kind, operand, operand_count};
-use tables::{Index, MOST_RECORDS};
+use parts::{How, Part, words};
+use prelude::Refusal;
+use tables::MOST_RECORDS;
+use tables::sheet::Sheet;
 use values::Value;
 
 // An agenda is what is still to be matched. An entry is the record of a pattern, the part that it meets, and the entry that follows. Entry 0 is none, one
@@ -46,18 +45,10 @@ pub type Rows = [u32; ROWS_WORDS];
 
 pub type RowOrder = [u8; Value::BINDINGS];
 
-// How many bindings there are, or refusal 29 or 30.
-#[derive(Clone, Copy)]
-pub enum Formed {
-    Number(usize),
-    Refused(usize),
-}
-
-// How many bindings there are so far, or too many; how many frames are on the stack; and how many of these, from the first on, have a match.
+// How many bindings there are so far; how many frames are on the stack; and how many of these, from the first on, have a match.
 #[derive(Clone, Copy)]
 pub struct Step {
     pub n: usize,
-    pub full: bool,
     pub depth: usize,
     pub hit: usize,
 }
@@ -71,8 +62,7 @@ pub struct Queue {
 
 // Puts part i of a pattern, with what it meets, before the rest of the agenda.
 fn push_piece(
-    table: &[u8],
-    index: &Index,
+    sheet: &Sheet,
     p: usize,
     i: usize,
     s: &[u8],
@@ -81,10 +71,10 @@ fn push_piece(
     next: usize,
     top: usize,
 )
-    requires { PiecePushable table.now index.now p i s.now piece agenda.old next top }
-    ensures { PiecePushed table.now index.now p i s.now piece agenda.old next top agenda.new }
+    requires { PiecePushable sheet.now p i s.now piece agenda.old next top }
+    ensures { PiecePushed sheet.now p i s.now piece agenda.old next top agenda.new }
 {
-    let q = operand(table, index, p, i);
+    let q = sheet.operand(p, i);
     let b = words::word_of(s, piece);
     agenda[3 * top] = q as u32;
     agenda[3 * top + 1] = b;
@@ -93,8 +83,7 @@ fn push_piece(
 
 // Puts part i of a pattern of kind k with n parts, with what it meets in the way d, before the rest of the agenda.
 fn push_part(
-    table: &[u8],
-    index: &Index,
+    sheet: &Sheet,
     p: usize,
     k: usize,
     n: usize,
@@ -106,17 +95,16 @@ fn push_part(
     next: usize,
     top: usize,
 )
-    requires { PartPushable table.now index.now p k n s.now part d i agenda.old next top }
-    ensures { PartPushed table.now index.now p s.now part d i agenda.old next top agenda.new }
+    requires { PartPushable sheet.now p k n s.now part d i agenda.old next top }
+    ensures { PartPushed sheet.now p s.now part d i agenda.old next top agenda.new }
 {
     let a = nodes::piece(k, n, s, part, d, i);
-    push_piece(table, index, p, i, s, a, agenda, next, top);
+    push_piece(sheet, p, i, s, a, agenda, next, top);
 }
 
 // Puts the two parts of a union or munion of kind k, with the halves of its split d + 1, before the rest of the agenda: the split is made once for both.
 fn push_halves(
-    table: &[u8],
-    index: &Index,
+    sheet: &Sheet,
     p: usize,
     k: usize,
     s: &[u8],
@@ -126,21 +114,20 @@ fn push_halves(
     next: usize,
     top: usize,
 ) -> usize
-    requires { Pushable table.now index.now p s.now part d agenda.old next top (count_of table.now p) × (k ≡ kind_at (records table.now) p) × (is_split k ≡ true) }
-    ensures { Pushed table.now index.now p s.now part d agenda.old next top 0 agenda.new result }
+    requires { Pushable sheet.now p s.now part d agenda.old next top (count_of sheet.now p) × (k ≡ kind_at (records sheet.now) p) × (is_split k ≡ true) }
+    ensures { Pushed sheet.now p s.now part d agenda.old next top 0 agenda.new result }
 {
     let mask = parts::mask_of(s, part);
     let left = parts::masks::spread(mask, d + 1);
     let h = parts::halves_by(part, mask, left);
-    push_piece(table, index, p, 1, s, h.right, agenda, next, top);
-    push_piece(table, index, p, 0, s, h.left, agenda, top, top + 1);
+    push_piece(sheet, p, 1, s, h.right, agenda, next, top);
+    push_piece(sheet, p, 0, s, h.left, agenda, top, top + 1);
     top + 1
 }
 
 // Puts the parts of a pattern, each with what it meets in the way d, before the rest of the agenda.
 fn push_all(
-    table: &[u8],
-    index: &Index,
+    sheet: &Sheet,
     p: usize,
     s: &[u8],
     word: u32,
@@ -149,22 +136,19 @@ fn push_all(
     next: usize,
     top: usize,
 ) -> usize
-    requires { Pushable table.now index.now p s.now (unpacked word) d agenda.old next top (count_of table.now p) }
-    ensures { Pushed table.now index.now p s.now (unpacked word) d agenda.old next top 0 agenda.new result }
+    requires { Pushable sheet.now p s.now (unpacked word) d agenda.old next top (count_of sheet.now p) }
+    ensures { Pushed sheet.now p s.now (unpacked word) d agenda.old next top 0 agenda.new result }
 {
-    let k = kind(table, index, p);
-    let n = operand_count(table, index, p);
+    let k = sheet.kind(p);
+    let n = sheet.operand_count(p);
     let part = words::unpack(word);
-    let united = nodes::is_split(k);
-    if united {
-        return push_halves(table, index, p, k, s, part, d, agenda, next, top);
+    if nodes::is_split(k) {
+        return push_halves(sheet, p, k, s, part, d, agenda, next, top);
     }
     let mut head = next;
-    let mut i = n;
     let mut to = top;
-    while 0 < i {
-        i -= 1;
-        push_part(table, index, p, k, n, s, part, d, i, agenda, head, to);
+    for i in (0..n).rev() {
+        push_part(sheet, p, k, n, s, part, d, i, agenda, head, to);
         head = to;
         to += 1;
     }
@@ -173,8 +157,7 @@ fn push_all(
 
 // Puts those parts before the rest of the agenda whose bit is this one.
 fn push_where(
-    table: &[u8],
-    index: &Index,
+    sheet: &Sheet,
     p: usize,
     s: &[u8],
     word: u32,
@@ -185,19 +168,17 @@ fn push_where(
     bits: usize,
     bit: usize,
 ) -> Queue
-    requires { Pushable table.now index.now p s.now (unpacked word) d agenda.old next top (how_many table.now p bits bit) }
-    ensures { PushedWhere table.now index.now p s.now (unpacked word) d agenda.old next top bits bit agenda.new result }
+    requires { Pushable sheet.now p s.now (unpacked word) d agenda.old next top (how_many sheet.now p bits bit) }
+    ensures { PushedWhere sheet.now p s.now (unpacked word) d agenda.old next top bits bit agenda.new result }
 {
-    let k = kind(table, index, p);
-    let n = operand_count(table, index, p);
+    let k = sheet.kind(p);
+    let n = sheet.operand_count(p);
     let part = words::unpack(word);
     let mut head = next;
-    let mut i = n;
     let mut to = top;
-    while 0 < i {
-        i -= 1;
+    for i in (0..n).rev() {
         if (bits >> i) % 2 == bit {
-            push_part(table, index, p, k, n, s, part, d, i, agenda, head, to);
+            push_part(sheet, p, k, n, s, part, d, i, agenda, head, to);
             head = to;
             to += 1;
         }
@@ -207,8 +188,7 @@ fn push_where(
 
 // Puts the parts before the rest of the agenda, those first that are only tests: one that fails ends the way.
 fn push(
-    table: &[u8],
-    index: &Index,
+    sheet: &Sheet,
     p: usize,
     s: &[u8],
     word: u32,
@@ -218,16 +198,16 @@ fn push(
     top: usize,
     tests: usize,
 ) -> usize
-    requires { Pushable table.now index.now p s.now (unpacked word) d agenda.old next top (count_of table.now p) }
-    ensures { Pushed table.now index.now p s.now (unpacked word) d agenda.old next top tests agenda.new result }
+    requires { Pushable sheet.now p s.now (unpacked word) d agenda.old next top (count_of sheet.now p) }
+    ensures { Pushed sheet.now p s.now (unpacked word) d agenda.old next top tests agenda.new result }
 {
     if tests == 0 {
-        return push_all(table, index, p, s, word, d, agenda, next, top);
+        return push_all(sheet, p, s, word, d, agenda, next, top);
     }
-    let others = push_where(table, index, p, s, word, d, agenda, next, top, tests, 0);
+    let others = push_where(sheet, p, s, word, d, agenda, next, top, tests, 0);
     let head = others.head;
     let free = others.top;
-    let all = push_where(table, index, p, s, word, d, agenda, head, free, tests, 1);
+    let all = push_where(sheet, p, s, word, d, agenda, head, free, tests, 1);
     all.head
 }
 
@@ -236,26 +216,24 @@ fn split_word(s: &[u8], k: usize, word: u32, ways: usize) -> u32
     requires { WordMet s.now k word ways }
     ensures { SameValue s.now word result }
 {
-    let united = nodes::is_split(k);
-    if !united {
+    if !nodes::is_split(k) {
         return word;
     }
     let p = words::unpack(word);
-    if p.how != Part::WHOLE {
+    let How::Whole = p.how else {
         return word;
-    }
+    };
     let units = Part {
         at: p.at,
         extent: (ways + 1) as u16,
-        how: Part::UNITS,
+        how: How::Units,
     };
     words::word_of(s, units)
 }
 
 // Opens a frame for the entry at, where some way may have a match and there are n rows; how many frames there are.
 fn open_frame(
-    table: &[u8],
-    index: &Index,
+    sheet: &Sheet,
     s: &[u8],
     agenda: &Agenda,
     at: usize,
@@ -266,52 +244,48 @@ fn open_frame(
     depth: usize,
     n: usize,
 ) -> usize
-    requires { OpenHeld table.now index.now s.now agenda.now at next top found.now frames.old depth n }
-    ensures { Opened table.now index.now s.now agenda.now at next top found.now frames.old depth n frames.new result }
+    requires { OpenHeld sheet.now s.now agenda.now at next top found.now frames.old depth n }
+    ensures { Opened sheet.now s.now agenda.now at next top found.now frames.old depth n frames.new result }
 {
     let whole = agenda[3 * at] as usize;
     let word = agenda[3 * at + 1];
-    let p = reduced::reduced(table, index, whole);
-    let k = kind(table, index, p);
-    let c = operand_count(table, index, p);
+    let p = reduced::reduced(sheet, whole);
+    let k = sheet.kind(p);
+    let c = sheet.operand_count(p);
     let part = words::unpack(word);
-    let m = nodes::meet(k, c, s, part);
-    if let Meeting::Ways(ways) = m {
-        let sizes = sizes::sizes_of(table, index, p, k, s, found);
-        let way = sizes::way_from(k, ways, 0, sizes);
-        let once = settled::is_settled(table, index, p, found);
-        let mask = masks::mask_of(found);
-        let tests = settled::tests_of(table, index, p, k, once, found);
-        let asked = needs::asked_by_union(table, index, p, k, s, part, found);
-        if let Asked::Lacked = asked {
-            return depth;
-        }
-        let asks = needs::is_had(asked);
-        let f = Frame {
-            p,
-            at,
-            next,
-            top,
-            way,
-            ways,
-            mask,
-            once,
-            sizes,
-            tests,
-            since: n,
-            seen: n,
-            asks,
-        };
-        return frames::advance(frames, depth, f);
-    }
-    depth
+    let Ok(ways) = nodes::meet(k, c, s, part) else {
+        return depth;
+    };
+    let sizes = sizes::sizes_of(sheet, p, k, s, found);
+    let way = sizes::way_from(k, ways, 0, sizes);
+    let once = settled::is_settled(sheet, p, found);
+    let mask = masks::mask_of(found);
+    let tests = settled::tests_of(sheet, p, k, once, found);
+    let Ok(asks) = needs::asked_by_union(sheet, p, k, s, part, found) else {
+        return depth;
+    };
+    let f = Frame {
+        p,
+        at,
+        next,
+        top,
+        way,
+        ways,
+        mask,
+        once,
+        sizes,
+        tests,
+        since: n,
+        seen: n,
+        asks,
+    };
+    frames::advance(frames, depth, f)
 }
 
 // Goes on with an agenda: leaves are taken off; a match is inserted, or a frame opened for the pattern with parts that waits, unless all that would
 // follow is among the rows already. Where asks is true, patterns with parts ask for items first.
 fn down(
-    table: &[u8],
-    index: &Index,
+    sheet: &Sheet,
     s: &[u8],
     agenda: &Agenda,
     head: usize,
@@ -324,34 +298,28 @@ fn down(
     order: &mut RowOrder,
     n: usize,
     asks: bool,
-) -> Step
-    requires { DownHeld table.now index.now s.now agenda.now head top found.old frames.old depth hit rows.old order.old n }
-    ensures { WentDown table.now index.now s.now agenda.now head top found.old frames.old depth hit rows.old order.old n found.new frames.new rows.new order.new result }
+) -> Result<Step, Refusal>
+    requires { DownHeld sheet.now s.now agenda.now head top found.old frames.old depth hit rows.old order.old n }
+    ensures { WentDown sheet.now s.now agenda.now head top found.old frames.old depth hit rows.old order.old n found.new frames.new rows.new order.new result }
 {
-    let left = taking::take_leaves(table, index, s, agenda, head, found, asks);
-    if left.fits {
-        let at = left.wait;
-        if at == 0 {
-            return insert_match(s, found, depth, rows, order, n);
-        }
-        if !repeats::is_repeat(table, index, agenda, at, found, frames, depth, rows) {
-            let opened = open_frame(
-                table, index, s, agenda, at, left.head, top, found, frames, depth, n,
-            );
-            return Step {
-                n,
-                full: false,
-                depth: opened,
-                hit,
-            };
-        }
+    let Some(left) = taking::take_leaves(sheet, s, agenda, head, found, asks) else {
+        return Ok(Step { n, depth, hit });
+    };
+    let at = left.wait;
+    if at == 0 {
+        return insert_match(s, found, depth, rows, order, n);
     }
-    Step {
+    if repeats::is_repeat(sheet, agenda, at, found, frames, depth, rows) {
+        return Ok(Step { n, depth, hit });
+    }
+    let opened = open_frame(
+        sheet, s, agenda, at, left.head, top, found, frames, depth, n,
+    );
+    Ok(Step {
         n,
-        full: false,
-        depth,
+        depth: opened,
         hit,
-    }
+    })
 }
 
 // Inserts a match among the rows: each pattern on the stack has one now.
@@ -362,41 +330,21 @@ fn insert_match(
     rows: &mut Rows,
     order: &mut RowOrder,
     n: usize,
-) -> Step
+) -> Result<Step, Refusal>
     requires { EntryHeld s.now found.now rows.old order.old n }
     ensures { MatchEntered s.now found.now depth rows.old order.old n rows.new order.new result }
 {
-    let formed = rows::insert_row(s, found, rows, order, n);
-    match formed {
-        Formed::Refused(_) => Step {
-            n,
-            full: true,
-            depth: 0,
-            hit: 0,
-        },
-        Formed::Number(k) => Step {
-            n: k,
-            full: false,
-            depth,
-            hit: depth,
-        },
-    }
-}
-
-// The lesser of two.
-fn lesser(a: usize, b: usize) -> usize
-    ensures { (result ≤ a) × (result ≤ b) }
-{
-    if a < b {
-        return a;
-    }
-    b
+    let k = rows::insert_row(s, found, rows, order, n)?;
+    Ok(Step {
+        n: k,
+        depth,
+        hit: depth,
+    })
 }
 
 // Goes back to the last frame: its next way; or it is left, being only a test and having a match.
 fn back(
-    table: &[u8],
-    index: &Index,
+    sheet: &Sheet,
     s: &[u8],
     agenda: &mut Agenda,
     found: &mut [u32; Env::NAMES],
@@ -406,35 +354,31 @@ fn back(
     rows: &mut Rows,
     order: &mut RowOrder,
     n: usize,
-) -> Step
-    requires { BackHeld table.now index.now s.now agenda.old found.old frames.old depth hit rows.old order.old n }
-    ensures { WentBack table.now index.now s.now agenda.old found.old frames.old depth hit rows.old order.old n agenda.new found.new frames.new rows.new order.new result }
+) -> Result<Step, Refusal>
+    requires { BackHeld sheet.now s.now agenda.old found.old frames.old depth hit rows.old order.old n }
+    ensures { WentBack sheet.now s.now agenda.old found.old frames.old depth hit rows.old order.old n agenda.new found.new frames.new rows.new order.new result }
 {
     let i = depth - 1;
     let f = frames::load(frames, i);
-    if f.once {
-        if i < hit {
-            return Step {
-                n,
-                full: false,
-                depth: i,
-                hit: i,
-            };
-        }
+    if f.once && i < hit {
+        return Ok(Step {
+            n,
+            depth: i,
+            hit: i,
+        });
     }
     let p = f.p;
     let at = f.at;
-    let k = kind(table, index, p);
-    let c = operand_count(table, index, p);
+    let k = sheet.kind(p);
+    let c = sheet.operand_count(p);
     let met = agenda[3 * at + 1];
     let w = split_word(s, k, met, f.ways);
     let way = sizes::way_from(k, f.ways, f.way + 1, f.sizes);
     let left = frames::go_on(frames, i, way, f.ways, n);
     masks::clear(found, f.mask);
-    let head = push(table, index, p, s, w, f.way, agenda, f.next, f.top, f.tests);
+    let head = push(sheet, p, s, w, f.way, agenda, f.next, f.top, f.tests);
     down(
-        table,
-        index,
+        sheet,
         s,
         agenda,
         head,
@@ -442,7 +386,7 @@ fn back(
         found,
         frames,
         left,
-        lesser(hit, left),
+        hit.min(left),
         rows,
         order,
         n,
@@ -452,8 +396,7 @@ fn back(
 
 // Goes back until no frame is left.
 fn finish(
-    table: &[u8],
-    index: &Index,
+    sheet: &Sheet,
     s: &[u8],
     agenda: &mut Agenda,
     found: &mut [u32; Env::NAMES],
@@ -461,26 +404,22 @@ fn finish(
     first: Step,
     rows: &mut Rows,
     order: &mut RowOrder,
-) -> Formed
-    requires { FinishHeld table.now index.now s.now agenda.old found.old frames.old first rows.old order.old }
-    ensures { Finished table.now index.now s.now agenda.old found.old frames.old first rows.old order.old agenda.new rows.new order.new result }
+) -> Result<usize, Refusal>
+    requires { FinishHeld sheet.now s.now agenda.old found.old frames.old first rows.old order.old }
+    ensures { Finished sheet.now s.now agenda.old found.old frames.old first rows.old order.old agenda.new rows.new order.new result }
 {
     let mut r = first;
     while 0 < r.depth {
         r = back(
-            table, index, s, agenda, found, frames, r.depth, r.hit, rows, order, r.n,
-        );
+            sheet, s, agenda, found, frames, r.depth, r.hit, rows, order, r.n,
+        )?;
     }
-    if r.full {
-        return Formed::Refused(30);
-    }
-    Formed::Number(r.n)
+    Ok(r.n)
 }
 
 // All matches of an agenda that go on from what is found: each is inserted.
 pub fn solve(
-    table: &[u8],
-    index: &Index,
+    sheet: &Sheet,
     s: &[u8],
     agenda: &mut Agenda,
     head: usize,
@@ -489,14 +428,13 @@ pub fn solve(
     rows: &mut Rows,
     order: &mut RowOrder,
     n: usize,
-) -> Formed
-    requires { Solvable table.now index.now s.now agenda.old head top found.old rows.old order.old n }
-    ensures { Solved table.now index.now s.now agenda.old head top found.old rows.old order.old n agenda.new rows.new order.new result }
+) -> Result<usize, Refusal>
+    requires { Solvable sheet.now s.now agenda.old head top found.old rows.old order.old n }
+    ensures { Solved sheet.now s.now agenda.old head top found.old rows.old order.old n agenda.new rows.new order.new result }
 {
     let mut frames = [0u8; frames::FRAMES_BYTES];
     let first = down(
-        table,
-        index,
+        sheet,
         s,
         agenda,
         head,
@@ -509,16 +447,6 @@ pub fn solve(
         order,
         n,
         false,
-    );
-    finish(
-        table,
-        index,
-        s,
-        agenda,
-        found,
-        &mut frames,
-        first,
-        rows,
-        order,
-    )
+    )?;
+    finish(sheet, s, agenda, found, &mut frames, first, rows, order)
 }

@@ -11,13 +11,8 @@ pub fn mask_of(found: &[u32; Env::NAMES]) -> usize
     ensures { (result ≡ mask_of found.now) × (result < 65536) }
 {
     let mut mask = 0;
-    let mut x = Env::NAMES;
-    while 0 < x {
-        x -= 1;
-        mask *= 2;
-        if found[x] != 0 {
-            mask += 1;
-        }
+    for x in (0..Env::NAMES).rev() {
+        mask = 2 * mask + usize::from(found[x] != 0);
     }
     mask
 }
@@ -28,12 +23,10 @@ pub fn clear(found: &mut [u32; Env::NAMES], mask: usize)
     ensures { Cleared found.old mask found.new }
 {
     let mut left = mask;
-    let mut x = 0;
-    while x < Env::NAMES {
+    for x in 0..Env::NAMES {
         if left % 2 == 0 {
             found[x] = 0;
         }
         left /= 2;
-        x += 1;
     }
 }

@@ -9,193 +9,149 @@ ghost use Rattle.parts.specs.Word.{unpacked};
 ghost use Rattle.patterns.specs.Read.{Readable};
 ghost use Rattle.matching.specs.Node.{is_split};
 ghost use Rattle.forming.specs.Sizes.{Splits, enumeration_of};
-ghost use Rattle.forming.specs.Needs.{AskHeld, UnionOf, is_had, TellsAsked, TellsLacked, TellsFit, WordAt};
+ghost use Rattle.forming.specs.Needs.{AskHeld, UnionOf, TellsAsked, TellsLacked, TellsFit, WordAt};
 
 use crate::sizes;
 use matching::nodes;
 use parts::words::Env;
 use parts::{Part, words};
-use tables::reading::{field, kind, operand, operand_count};
-use tables::{Index, kinds};
+use tables::kinds;
+use tables::sheet::Sheet;
 use values::Value;
 
-// What the names that have a value ask of a set or map that a pattern meets: nothing, items that it has, or one that it lacks.
-#[derive(Clone, Copy)]
-pub enum Asked {
-    Nothing,
-    Had,
-    Lacked,
-}
+// The set or map that a pattern meets lacks an item that is asked of it. Else it is told whether any item is.
+#[derive(Clone, Copy, Debug, PartialEq, Eq)]
+pub struct Lacking;
 
-// The word of a name; 0 where the pattern is none, or the name has no value.
-fn word_at(table: &[u8], index: &Index, p: usize, found: &[u32; Env::NAMES]) -> u32
-    requires { Readable table.now index.now p }
-    ensures { WordAt table.now p found.now result }
+// The word of a name that has a value.
+fn word_at(sheet: &Sheet, p: usize, found: &[u32; Env::NAMES]) -> Option<u32>
+    requires { Readable sheet.now p }
+    ensures { WordAt sheet.now p found.now result }
 {
-    let k = kind(table, index, p);
-    if k != kinds::NAME_PATTERN {
-        return 0;
+    if sheet.kind(p) != kinds::NAME_PATTERN {
+        return None;
     }
-    let x = field(table, index, p, 0);
-    found[x]
+    let word = found[sheet.field(p, 0)];
+    if word == 0 { None } else { Some(word) }
 }
 
 // What the names of an enumeration ask, where c is the kind of the unions or munions of such enumerations.
 fn asked_by_names(
-    table: &[u8],
-    index: &Index,
+    sheet: &Sheet,
     p: usize,
     c: usize,
     s: &[u8],
     part: Part,
     found: &[u32; Env::NAMES],
-) -> Asked
-    requires { AskHeld table.now index.now p s.now found.now × CollectionHeld s.now part × Splits c × (kind_at (records table.now) p ≡ enumeration_of c) }
-    ensures { TellsLacked table.now p c s.now part found.now result }
+) -> Result<bool, Lacking>
+    requires { AskHeld sheet.now p s.now found.now × CollectionHeld s.now part × Splits c × (kind_at (records sheet.now) p ≡ enumeration_of c) }
+    ensures { TellsLacked sheet.now p c s.now part found.now result }
 {
-    let n = operand_count(table, index, p);
     let mut had = false;
-    let mut i = 0;
-    while i < n {
-        let q = operand(table, index, p, i);
-        let word = word_at(table, index, q, found);
-        if word != 0 {
-            let value = words::unpack(word);
-            let there = parts::has_item(s, part, value);
-            if !there {
-                return Asked::Lacked;
+    for i in 0..sheet.operand_count(p) {
+        let q = sheet.operand(p, i);
+        if let Some(word) = word_at(sheet, q, found) {
+            if !parts::has_item(s, part, words::unpack(word)) {
+                return Err(Lacking);
             }
             had = true;
         }
-        i += 1;
     }
-    if had {
-        return Asked::Had;
-    }
-    Asked::Nothing
+    Ok(had)
 }
 
 // What an enumeration or a tree of unions or munions, of kind c, asks of a set or map of which it meets some members or entries.
 fn asked_by_tree(
-    table: &[u8],
-    index: &Index,
+    sheet: &Sheet,
     p: usize,
     c: usize,
     s: &[u8],
     part: Part,
     found: &[u32; Env::NAMES],
-) -> Asked
-    requires { AskHeld table.now index.now p s.now found.now × CollectionHeld s.now part × (is_split c ≡ true) }
-    ensures { TellsLacked table.now p c s.now part found.now result }
+) -> Result<bool, Lacking>
+    requires { AskHeld sheet.now p s.now found.now × CollectionHeld s.now part × (is_split c ≡ true) }
+    ensures { TellsLacked sheet.now p c s.now part found.now result }
 {
-    let k = kind(table, index, p);
-    let named = sizes::enumeration_of(c);
-    if k == named {
-        return asked_by_names(table, index, p, c, s, part, found);
+    let k = sheet.kind(p);
+    if k == sizes::enumeration_of(c) {
+        return asked_by_names(sheet, p, c, s, part, found);
     }
     if k != c {
-        return Asked::Nothing;
+        return Ok(false);
     }
-    let l = operand(table, index, p, 0);
-    let left = asked_by_tree(table, index, l, c, s, part, found);
-    if let Asked::Lacked = left {
-        return Asked::Lacked;
-    }
-    let r = operand(table, index, p, 1);
-    let right = asked_by_tree(table, index, r, c, s, part, found);
-    if let Asked::Nothing = right {
-        return left;
-    }
-    right
+    let l = sheet.operand(p, 0);
+    let left = asked_by_tree(sheet, l, c, s, part, found)?;
+    let r = sheet.operand(p, 1);
+    let right = asked_by_tree(sheet, r, c, s, part, found)?;
+    Ok(left || right)
 }
 
-// The kind of patterns that split values of this kind, sets or maps; 0 where there is none.
-fn union_of(kind: usize) -> usize
+// The kind of patterns that split values of this kind, sets or maps.
+fn union_of(kind: usize) -> Option<usize>
     ensures { UnionOf kind result }
 {
     match kind {
-        Value::SET => kinds::UNION_PATTERN,
-        Value::MAP => kinds::MUNION_PATTERN,
-        _ => 0,
+        Value::SET => Some(kinds::UNION_PATTERN),
+        Value::MAP => Some(kinds::MUNION_PATTERN),
+        _ => None,
     }
 }
 
 // What a pattern asks of what it meets: nothing of what is no set or map, or one that is too large to split.
 pub fn asked_by_pattern(
-    table: &[u8],
-    index: &Index,
+    sheet: &Sheet,
     p: usize,
     s: &[u8],
     part: Part,
     found: &[u32; Env::NAMES],
-) -> Asked
-    requires { AskHeld table.now index.now p s.now found.now × PartHeld s.now part }
-    ensures { TellsAsked table.now p s.now part found.now result }
+) -> Result<bool, Lacking>
+    requires { AskHeld sheet.now p s.now found.now × PartHeld s.now part }
+    ensures { TellsAsked sheet.now p s.now part found.now result }
 {
     let k = parts::kind_of_part(s, part);
-    let c = union_of(k);
-    if c == 0 {
-        return Asked::Nothing;
-    }
+    let Some(c) = union_of(k) else {
+        return Ok(false);
+    };
     let n = parts::count_of_part(s, part);
-    let width = parts::masks::width(k);
-    if parts::masks::MOST_UNITS * width < n {
-        return Asked::Nothing;
+    if parts::masks::MOST_UNITS * parts::masks::width(k) < n {
+        return Ok(false);
     }
-    asked_by_tree(table, index, p, c, s, part, found)
+    asked_by_tree(sheet, p, c, s, part, found)
 }
 
 // What a pattern of kind k asks, where it is a union or munion; else nothing.
 pub fn asked_by_union(
-    table: &[u8],
-    index: &Index,
+    sheet: &Sheet,
     p: usize,
     k: usize,
     s: &[u8],
     part: Part,
     found: &[u32; Env::NAMES],
-) -> Asked
-    requires { AskHeld table.now index.now p s.now found.now × PartHeld s.now part }
-    ensures { TellsAsked table.now p s.now part found.now result }
+) -> Result<bool, Lacking>
+    requires { AskHeld sheet.now p s.now found.now × PartHeld s.now part }
+    ensures { TellsAsked sheet.now p s.now part found.now result }
 {
-    let united = nodes::is_split(k);
-    if !united {
-        return Asked::Nothing;
+    if !nodes::is_split(k) {
+        return Ok(false);
     }
-    asked_by_pattern(table, index, p, s, part, found)
-}
-
-// Items were asked for, and the set or map has them.
-pub fn is_had(a: Asked) -> bool
-    ensures { result ≡ is_had a }
-{
-    match a {
-        Asked::Nothing => false,
-        Asked::Had => true,
-        Asked::Lacked => false,
-    }
+    asked_by_pattern(sheet, p, s, part, found)
 }
 
 // The part has what the pattern asks of it, where this is asked.
 pub fn may_match(
     asks: bool,
-    table: &[u8],
-    index: &Index,
+    sheet: &Sheet,
     p: usize,
     s: &[u8],
     word: u32,
     found: &[u32; Env::NAMES],
 ) -> bool
-    requires { AskHeld table.now index.now p s.now found.now × PartHeld s.now (unpacked word) }
-    ensures { TellsFit table.now p s.now (unpacked word) found.now result }
+    requires { AskHeld sheet.now p s.now found.now × PartHeld s.now (unpacked word) }
+    ensures { TellsFit sheet.now p s.now (unpacked word) found.now result }
 {
     if !asks {
         return true;
     }
     let part = words::unpack(word);
-    let a = asked_by_pattern(table, index, p, s, part, found);
-    if let Asked::Lacked = a {
-        return false;
-    }
-    true
+    asked_by_pattern(sheet, p, s, part, found).is_ok()
 }

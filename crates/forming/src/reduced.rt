@@ -5,94 +5,83 @@ ghost use Rattle.patterns.specs.Read.{Readable};
 ghost use Rattle.forming.specs.Inner.{Composed};
 ghost use Rattle.forming.specs.Reduced.{TellsAll, TellsMore, SpareHeld, TellsSpare, Reduced};
 
-use tables::reading::{kind, operand};
-use tables::{Index, kinds};
+use tables::kinds;
+use tables::sheet::Sheet;
 
 // Any, or a concatenation of halves that are so: the pattern matches every sequence.
-fn accepts_all(table: &[u8], index: &Index, p: usize) -> bool
-    requires { Readable table.now index.now p }
-    ensures { TellsAll table.now p result }
+fn accepts_all(sheet: &Sheet, p: usize) -> bool
+    requires { Readable sheet.now p }
+    ensures { TellsAll sheet.now p result }
 {
-    let k = kind(table, index, p);
+    let k = sheet.kind(p);
     if k == kinds::ANY_PATTERN {
         return true;
     }
     if k != kinds::CONCATENATION_PATTERN {
         return false;
     }
-    let l = operand(table, index, p, 0);
-    let left = accepts_all(table, index, l);
-    if !left {
-        return false;
-    }
-    let r = operand(table, index, p, 1);
-    accepts_all(table, index, r)
+    let l = sheet.operand(p, 0);
+    let r = sheet.operand(p, 1);
+    accepts_all(sheet, l) && accepts_all(sheet, r)
 }
 
 // Any, or a concatenation whose half on that side is so: the pattern takes in any more items before (side 0) or after its own.
-fn takes_more(table: &[u8], index: &Index, p: usize, side: usize) -> bool
-    requires { Readable table.now index.now p × (side < 2) }
-    ensures { TellsMore table.now p side result }
+fn takes_more(sheet: &Sheet, p: usize, side: usize) -> bool
+    requires { Readable sheet.now p × (side < 2) }
+    ensures { TellsMore sheet.now p side result }
 {
-    let k = kind(table, index, p);
+    let k = sheet.kind(p);
     if k == kinds::ANY_PATTERN {
         return true;
     }
     if k != kinds::CONCATENATION_PATTERN {
         return false;
     }
-    let q = operand(table, index, p, side);
-    takes_more(table, index, q, side)
+    let q = sheet.operand(p, side);
+    takes_more(sheet, q, side)
 }
 
 // One half of a concatenation matches all, and the other takes in any more: the other has the same bindings.
-fn is_spare(table: &[u8], index: &Index, p: usize, side: usize) -> bool
-    requires { SpareHeld table.now index.now p side }
-    ensures { TellsSpare table.now index.now p side result }
+fn is_spare(sheet: &Sheet, p: usize, side: usize) -> bool
+    requires { SpareHeld sheet.now p side }
+    ensures { TellsSpare sheet.now p side result }
 {
-    let u = operand(table, index, p, side);
-    let all = accepts_all(table, index, u);
-    if !all {
+    let u = sheet.operand(p, side);
+    if !accepts_all(sheet, u) {
         return false;
     }
-    let q = operand(table, index, p, 1 - side);
-    let k = kind(table, index, q);
-    if k != kinds::CONCATENATION_PATTERN {
-        return false;
-    }
-    takes_more(table, index, q, side)
+    let q = sheet.operand(p, 1 - side);
+    sheet.kind(q) == kinds::CONCATENATION_PATTERN && takes_more(sheet, q, side)
 }
 
 // The half that is left of a concatenation, where the other is spare; else the pattern itself.
-fn less_spare(table: &[u8], index: &Index, p: usize) -> usize
-    requires { Composed table.now index.now p }
-    ensures { Reduced table.now index.now p result }
+fn less_spare(sheet: &Sheet, p: usize) -> usize
+    requires { Composed sheet.now p }
+    ensures { Reduced sheet.now p result }
 {
-    let k = kind(table, index, p);
+    let k = sheet.kind(p);
     if k != kinds::CONCATENATION_PATTERN {
         return p;
     }
-    let left = is_spare(table, index, p, 0);
-    if left {
-        return operand(table, index, p, 1);
+    if is_spare(sheet, p, 0) {
+        return sheet.operand(p, 1);
     }
-    let right = is_spare(table, index, p, 1);
-    if right {
-        return operand(table, index, p, 0);
+    if is_spare(sheet, p, 1) {
+        return sheet.operand(p, 0);
     }
     p
 }
 
 // The record of a pattern with the same bindings, without wildcards that are spare.
-pub fn reduced(table: &[u8], index: &Index, p: usize) -> usize
-    requires { Composed table.now index.now p }
-    ensures { Reduced table.now index.now p result }
+pub fn reduced(sheet: &Sheet, p: usize) -> usize
+    requires { Composed sheet.now p }
+    ensures { Reduced sheet.now p result }
 {
     let mut last = p;
-    let mut q = less_spare(table, index, p);
+    let mut q = less_spare(sheet, p);
     while q < last {
         last = q;
-        q = less_spare(table, index, last);
+        q = less_spare(sheet, last);
     }
     q
 }

@@ -8,31 +8,27 @@ ghost use Rattle.forming.specs.Repeats.{TellsAny, RepeatHeld, TellsRepeat};
 use crate::frames::Frames;
 use crate::{Agenda, Rows, frames, rows, settled, sizes};
 use parts::words::Env;
-use tables::reading::{kind, operand, operand_count};
+use tables::kinds;
 use tables::shape::is_composed;
-use tables::{Index, kinds};
+use tables::sheet::Sheet;
 
 // A pattern holds a wildcard.
-fn holds_any(table: &[u8], index: &Index, p: usize) -> bool
-    requires { Readable table.now index.now p }
-    ensures { TellsAny table.now p result }
+fn holds_any(sheet: &Sheet, p: usize) -> bool
+    requires { Readable sheet.now p }
+    ensures { TellsAny sheet.now p result }
 {
-    let k = kind(table, index, p);
+    let k = sheet.kind(p);
     if k == kinds::ANY_PATTERN {
         return true;
     }
     if !is_composed(k) {
         return false;
     }
-    let n = operand_count(table, index, p);
-    let mut i = 0;
-    while i < n {
-        let q = operand(table, index, p, i);
-        let holds = holds_any(table, index, q);
-        if holds {
+    for i in 0..sheet.operand_count(p) {
+        let q = sheet.operand(p, i);
+        if holds_any(sheet, q) {
             return true;
         }
-        i += 1;
     }
     false
 }
@@ -42,22 +38,18 @@ fn lowest_matched(frames: &Frames, depth: usize, at: usize) -> usize
     requires { (depth ≤ most_frames) × (length frames.now ≡ frames_bytes) }
     ensures { result ≤ depth }
 {
-    let mut j = depth;
-    while 0 < j {
-        let top = frames::top_of(frames, j - 1);
-        if top <= at {
-            return j;
+    for j in (0..depth).rev() {
+        if frames::top_of(frames, j) <= at {
+            return j + 1;
         }
-        j -= 1;
     }
-    j
+    0
 }
 
 // All that follows what is found, the entry at first, is among the rows already. This is asked only where the pattern of that entry has two halves:
 // another is mostly gone through at less cost than the question.
 pub fn is_repeat(
-    table: &[u8],
-    index: &Index,
+    sheet: &Sheet,
     agenda: &Agenda,
     at: usize,
     found: &[u32; Env::NAMES],
@@ -65,11 +57,11 @@ pub fn is_repeat(
     depth: usize,
     rows: &Rows,
 ) -> bool
-    requires { RepeatHeld table.now index.now agenda.now at frames.now depth }
-    ensures { TellsRepeat table.now found.now frames.now depth rows.now result }
+    requires { RepeatHeld sheet.now agenda.now at frames.now depth }
+    ensures { TellsRepeat sheet.now found.now frames.now depth rows.now result }
 {
     let p = agenda[3 * at] as usize;
-    let k = kind(table, index, p);
+    let k = sheet.kind(p);
     if !sizes::splits(k) {
         return false;
     }
@@ -78,14 +70,8 @@ pub fn is_repeat(
         return false;
     }
     let f = frames::load(frames, j);
-    if f.seen <= f.since {
+    if f.seen <= f.since || !holds_any(sheet, f.p) {
         return false;
     }
-    if !holds_any(table, index, f.p) {
-        return false;
-    }
-    if !settled::is_settled(table, index, f.p, found) {
-        return false;
-    }
-    rows::some_agrees(found, rows, f.since, f.seen)
+    settled::is_settled(sheet, f.p, found) && rows::some_agrees(found, rows, f.since, f.seen)
 }

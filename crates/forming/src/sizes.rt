@@ -9,14 +9,13 @@ ghost use Rattle.patterns.specs.Read.{Readable};
 ghost use Rattle.matching.specs.Leaf.{Stands, Standing};
 ghost use Rattle.forming.specs.Sizes.{Splits, enumeration_of, fewest_of, SizeOfValue, TellsSize, Sum, HalvesHeld, TellsSizes, Rights, SplitFrom, CutFrom, FromHeld, From};
 
-use crate::settled::either;
 use matching::nodes;
 use parts::words;
 use parts::words::Env;
-use tables::reading::{field, kind, operand, operand_count};
-use tables::{Index, kinds};
+use tables::kinds;
+use tables::sheet::Sheet;
 
-// At least so many; or exactly so many, where there may not be more.
+// At least so many; or exactly so many, where there may not be more. The number is read in both cases, so that an enum of two would be no plainer.
 #[derive(Clone, Copy)]
 pub struct Size {
     pub least: u8,
@@ -30,10 +29,9 @@ impl Size {
     pub const TOLD: u8 = Size::MOST as u8;
 }
 
-// What the halves of a pattern take, if they do not take any number.
+// What the halves of a pattern take.
 #[derive(Clone, Copy)]
 pub struct Sizes {
-    pub bound: bool,
     pub left: Size,
     pub right: Size,
 }
@@ -50,9 +48,10 @@ fn sum(l: Size, r: Size) -> Size
             more: true,
         };
     }
-    let least = (a + b) as u8;
-    let more = either(l.more, r.more);
-    Size { least, more }
+    Size {
+        least: (a + b) as u8,
+        more: l.more || r.more,
+    }
 }
 
 // The kind of patterns that have a part for each item of what patterns of kind k split or cut.
@@ -70,10 +69,7 @@ pub fn enumeration_of(k: usize) -> usize
 fn fewest_of(k: usize) -> u8
     ensures { Splits k → result ≡ fewest_of (collection_of k) }
 {
-    if k == kinds::CONCATENATION_PATTERN {
-        return 0;
-    }
-    1
+    u8::from(k != kinds::CONCATENATION_PATTERN)
 }
 
 // How many units n items are of what patterns of kind k split or cut: an entry of a map is two.
@@ -109,20 +105,13 @@ fn size_of_value(s: &[u8], word: u32, k: usize) -> Size
 }
 
 // What a pattern takes that meets a half, where k is the kind of the whole.
-fn size_of(
-    table: &[u8],
-    index: &Index,
-    p: usize,
-    k: usize,
-    s: &[u8],
-    found: &[u32; Env::NAMES],
-) -> Size
-    requires { Readable table.now index.now p × Splits k × Standing s.now found.now }
-    ensures { (b : Binding) → Stands s.now found.now b → TellsSize table.now b p k result }
+fn size_of(sheet: &Sheet, p: usize, k: usize, s: &[u8], found: &[u32; Env::NAMES]) -> Size
+    requires { Readable sheet.now p × Splits k × Standing s.now found.now }
+    ensures { (b : Binding) → Stands s.now found.now b → TellsSize sheet.now b p k result }
 {
-    let own = kind(table, index, p);
+    let own = sheet.kind(p);
     if own == enumeration_of(k) {
-        let n = operand_count(table, index, p);
+        let n = sheet.operand_count(p);
         let units = units_of(k, n);
         return Size {
             least: units as u8,
@@ -130,14 +119,14 @@ fn size_of(
         };
     }
     if own == k {
-        let l = operand(table, index, p, 0);
-        let left = size_of(table, index, l, k, s, found);
-        let r = operand(table, index, p, 1);
-        let right = size_of(table, index, r, k, s, found);
+        let l = sheet.operand(p, 0);
+        let left = size_of(sheet, l, k, s, found);
+        let r = sheet.operand(p, 1);
+        let right = size_of(sheet, r, k, s, found);
         return sum(left, right);
     }
     if own == kinds::NAME_PATTERN {
-        let x = field(table, index, p, 0);
+        let x = sheet.field(p, 0);
         let word = found[x];
         if word != 0 {
             return size_of_value(s, word, k);
@@ -149,63 +138,41 @@ fn size_of(
 
 // Any number that a half may have.
 fn is_any(z: Size, k: usize) -> bool {
-    if z.least != fewest_of(k) {
-        return false;
-    }
-    z.more
+    z.more && z.least == fewest_of(k)
 }
 
 // Patterns of this kind have two halves.
 pub fn splits(k: usize) -> bool
     ensures { result ≡ true → Splits k }
 {
-    if k == kinds::CONCATENATION_PATTERN {
-        return true;
-    }
-    nodes::is_split(k)
+    k == kinds::CONCATENATION_PATTERN || nodes::is_split(k)
 }
 
-// What the halves of a pattern of kind k take, where it has two; else any number.
+// What the halves of a pattern of kind k take, where it has two and they do not both take any number.
 pub fn sizes_of(
-    table: &[u8],
-    index: &Index,
+    sheet: &Sheet,
     p: usize,
     k: usize,
     s: &[u8],
     found: &[u32; Env::NAMES],
-) -> Sizes
-    requires { HalvesHeld table.now index.now p k × Standing s.now found.now }
-    ensures { (b : Binding) → Stands s.now found.now b → TellsSizes table.now b p k result }
+) -> Option<Sizes>
+    requires { HalvesHeld sheet.now p k × Standing s.now found.now }
+    ensures { (b : Binding) → Stands s.now found.now b → TellsSizes sheet.now b p k result }
 {
-    let none = Size {
-        least: 0,
-        more: true,
-    };
-    let halved = splits(k);
-    if !halved {
-        return Sizes {
-            bound: false,
-            left: none,
-            right: none,
-        };
+    if !splits(k) {
+        return None;
     }
-    let l = operand(table, index, p, 0);
-    let left = size_of(table, index, l, k, s, found);
-    let r = operand(table, index, p, 1);
-    let right = size_of(table, index, r, k, s, found);
-    pair(left, right, k)
+    let l = sheet.operand(p, 0);
+    let left = size_of(sheet, l, k, s, found);
+    let r = sheet.operand(p, 1);
+    let right = size_of(sheet, r, k, s, found);
+    if is_any(left, k) && is_any(right, k) {
+        return None;
+    }
+    Some(Sizes { left, right })
 }
 
-// What the two halves of a pattern of kind k take.
-fn pair(left: Size, right: Size, k: usize) -> Sizes
-    ensures { (result.left ≡ left) × (result.right ≡ right) }
-{
-    let free = is_any(left, k);
-    let bound = if free { !is_any(right, k) } else { true };
-    Sizes { bound, left, right }
-}
-
-// From the least to the most of them; none where the least is more.
+// From the least to the most of them.
 #[derive(Clone, Copy)]
 pub struct Range {
     pub least: usize,
@@ -213,17 +180,20 @@ pub struct Range {
 }
 
 // How many of n the right half has where both halves have what they take.
-fn rights(z: Sizes, n: usize) -> Range
+fn rights(z: Sizes, n: usize) -> Option<Range>
     ensures { Rights z n result }
 {
     let left = z.left.least as usize;
     let right = z.right.least as usize;
     if n < left + right {
-        return Range { least: 1, most: 0 };
+        return None;
     }
     let least = if z.left.more { right } else { n - left };
     let most = if z.right.more { n - left } else { right };
-    Range { least, most }
+    if most < least {
+        return None;
+    }
+    Some(Range { least, most })
 }
 
 // The first of the splits 0 to w - 1 from d on that has so many units on the right: as many as bits of its number are set. A number that is higher by
@@ -233,7 +203,7 @@ fn split_from(w: usize, d: usize, r: Range) -> usize
 {
     let mut e = d;
     while e < w {
-        let n = usize::count_ones(e) as usize;
+        let n = e.count_ones() as usize;
         if n < r.least {
             let few = r.least - n;
             if w - e <= few {
@@ -257,7 +227,7 @@ fn cut_from(w: usize, d: usize, r: Range) -> usize
 {
     let last = w - 1;
     let first = last - r.most;
-    let e = if d < first { first } else { d };
+    let e = d.max(first);
     if last - e < r.least {
         return w;
     }
@@ -266,26 +236,26 @@ fn cut_from(w: usize, d: usize, r: Range) -> usize
 
 // The first way from d on whose halves may have what they take. The ways of a union or munion are all splits but the first and the last, which have an
 // empty half: way d is the split d + 1, and the split w + 1 has all units on the right.
-pub fn way_from(k: usize, w: usize, d: usize, z: Sizes) -> usize
+pub fn way_from(k: usize, w: usize, d: usize, z: Option<Sizes>) -> usize
     requires { FromHeld k w z }
     ensures { From k w d z result }
 {
-    if !z.bound {
+    let Some(sizes) = z else {
         return d;
-    }
+    };
     if w <= d {
         return d;
     }
     if k == kinds::CONCATENATION_PATTERN {
-        let r = rights(z, w - 1);
+        let Some(r) = rights(sizes, w - 1) else {
+            return w;
+        };
         return cut_from(w, d, r);
     }
     let last = w + 1;
-    let n = usize::count_ones(last) as usize;
-    let r = rights(z, n);
-    if r.most < r.least {
+    let n = last.count_ones() as usize;
+    let Some(r) = rights(sizes, n) else {
         return w;
-    }
-    let e = split_from(last, d + 1, r);
-    e - 1
+    };
+    split_from(last, d + 1, r) - 1
 }

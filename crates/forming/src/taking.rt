@@ -4,30 +4,28 @@ ghost use Rattle.forming.specs.Pending.{TakeHeld, Taken};
 use crate::{Agenda, needs};
 use matching::leaves;
 use parts::words::Env;
-use tables::Index;
-use tables::reading::kind;
 use tables::shape::is_composed;
+use tables::sheet::Sheet;
 
-// The entry with parts that waits, 0 where there is none; the entry to go on from; and whether all up to there may agree.
+// The entry with parts that waits, 0 where there is none as in the agenda; and the entry to go on from.
 #[derive(Clone, Copy)]
 pub struct Left {
     pub wait: usize,
     pub head: usize,
-    pub fits: bool,
 }
 
-// Takes leaves off an agenda, up to its end or to the second pattern with parts; or to one that lacks an item, where this is asked.
+// Takes leaves off an agenda, up to its end or to the second pattern with parts. None where one of them does not agree, or a pattern with parts lacks an
+// item, where this is asked.
 pub fn take_leaves(
-    table: &[u8],
-    index: &Index,
+    sheet: &Sheet,
     s: &[u8],
     agenda: &Agenda,
     head: usize,
     found: &mut [u32; Env::NAMES],
     asks: bool,
-) -> Left
-    requires { TakeHeld table.now index.now s.now agenda.now head found.old }
-    ensures { Taken table.now index.now s.now agenda.now head found.old found.new result }
+) -> Option<Left>
+    requires { TakeHeld sheet.now s.now agenda.now head found.old }
+    ensures { Taken sheet.now s.now agenda.now head found.old found.new result }
 {
     let mut head = head;
     let mut wait = 0;
@@ -35,28 +33,19 @@ pub fn take_leaves(
         let p = agenda[3 * head] as usize;
         let word = agenda[3 * head + 1];
         let next = agenda[3 * head + 2] as usize;
-        let k = kind(table, index, p);
+        let k = sheet.kind(p);
         if is_composed(k) {
-            let fits = needs::may_match(asks, table, index, p, s, word, found);
-            if !fits {
-                return Left { wait, head, fits };
+            if !needs::may_match(asks, sheet, p, s, word, found) {
+                return None;
             }
             if 0 < wait {
-                return Left { wait, head, fits };
+                return Some(Left { wait, head });
             }
             wait = head;
-            head = next;
-        } else {
-            let fits = leaves::match_leaf(table, index, p, s, word, found);
-            if !fits {
-                return Left { wait, head, fits };
-            }
-            head = next;
+        } else if !leaves::match_leaf(sheet, p, s, word, found) {
+            return None;
         }
+        head = next;
     }
-    Left {
-        wait,
-        head,
-        fits: true,
-    }
+    Some(Left { wait, head })
 }

@@ -31,8 +31,9 @@ use Rattle.patterns.proofs.Laws.Plain.{count_list}
 use Rattle.patterns.specs.Nodes.{collection_of, width, is_halved, meetings, is_large, both_halves}
 use Rattle.patterns.proofs.Laws.Orders.{orders_length}
 use Rattle.patterns.specs.Ways.{factorial}
-use Rattle.matching.specs.declared.nodes.Meeting.{Meeting}
-use Rattle.matching.specs.declared.nodes.Meeting.TheVariants.{Unfit, Large, Ways}
+use Rattle.std.specs.Prelude.{Result, Ok, Err}
+use Rattle.matching.specs.declared.nodes.Misfit.{Misfit}
+use Rattle.matching.specs.declared.nodes.Misfit.TheVariants.{Unfit, TooLarge}
 use Rattle.matching.specs.Node.{is_split, is_paired, SplitsAs, MeetsAs, Meets}
 
 -- ---- the contents of a value, by its kind
@@ -125,7 +126,7 @@ in_turn mapping u vs = true_false u
 in_turn tuple u vs = refl
 
 module _ (c n : ℕ) (v : Value) where
-  pub none_meets : contents (collection_of c) v ≡ absent → MeetsAs c n v Unfit
+  pub none_meets : contents (collection_of c) v ≡ absent → MeetsAs c n v (Err Unfit)
   none_meets e = by_test (is_halved c) (λ h. (rw (h, e), rw (h, e))) (λ h. (rw h, rw (h, e)))
 
   module _ (vs : List Value) (f : contents (collection_of c) v ≡ some vs) where
@@ -157,7 +158,7 @@ module _ (c n : ℕ) (v : Value) where
 -- ---- what `meet` answers
 
 module _ (c n : ℕ) (s : List ℕ) (p : Part) (k : ℕ) (kind : KindOfPart s p k) where
-  pub kind_unfit : (k ≡ number (collection_of c) → ⊥) → Meets c n s p Unfit
+  pub kind_unfit : (k ≡ number (collection_of c) → ⊥) → Meets c n s p (Err Unfit)
   kind_unfit f v h = none_meets c n v (contents_other (collection_of c) v (λ e. f (kind v h ∙ e)))
 
   module _ (same : k ≡ number (collection_of c)) where
@@ -186,7 +187,7 @@ module _ (c n : ℕ) (s : List ℕ) (p : Part) (k : ℕ) (kind : KindOfPart s p 
           ∙ ap (λ (x : ℕ). x / width (collection_of c)) (counts v h)
           ∙ units_count (collection_of c) (has_units v h).units
 
-      pub by_cuts : c ≡ 40 → PartHeld s p → Meets c n s p (Ways (count + 1))
+      pub by_cuts : c ≡ 40 → PartHeld s p → Meets c n s p (Ok (count + 1))
       by_cuts e held v h =
           let a = meets_cuts c n v (items_of_part v h) (has_units v h).has e in
           let len : length (meetings c n v) ≡ count + 1 =
@@ -194,12 +195,12 @@ module _ (c n : ℕ) (s : List ℕ) (p : Part) (k : ℕ) (kind : KindOfPart s p 
           (a.1, len, omega arith, omega (arith, count_few held))
 
       module _ (each : is_halved c ≡ false) where
-        pub count_unfit : (count ≡ n → ⊥) → Meets c n s p Unfit
+        pub count_unfit : (count ≡ n → ⊥) → Meets c n s p (Err Unfit)
         count_unfit d v h =
             let a = meets_each c n v (items_of_part v h) (has_units v h).has each in
             (a.1, a.0 ∙ rw (ne_eqb n (length (items_of_part v h)) (λ q. d (counts v h ∙ sym q))))
 
-        pub by_items : is_unordered (collection_of c) ≡ false → count ≡ n → Meets c n s p (Ways 1)
+        pub by_items : is_unordered (collection_of c) ≡ false → count ≡ n → Meets c n s p (Ok 1)
         by_items u d v h =
             let a = meets_each c n v (items_of_part v h) (has_units v h).has each in
             let fit = eq-eqb n (length (items_of_part v h)) (sym d ∙ counts v h) in
@@ -208,19 +209,19 @@ module _ (c n : ℕ) (s : List ℕ) (p : Part) (k : ℕ) (kind : KindOfPart s p 
             (a.1, len, omega arith, omega arith)
 
       module _ (units : ℕ) (are : (v : Value) (h : PartIs s p v) → units ≡ length (has_units v h).units) where
-        pub by_splits : is_split c ≡ true → (r : Meeting) → SplitsAs units r → Meets c n s p r
-        by_splits e Unfit l v h =
+        pub by_splits : is_split c ≡ true → (r : Result ℕ Misfit) → SplitsAs units r → Meets c n s p r
+        by_splits e (Err Unfit) l v h =
             let us = (has_units v h).units in
             let a = meets_splits c n v us (has_units v h).has e in
             let q = are v h in (
               a.1 ∙ le-ltb most_split (length us) (omega arith),
               a.0 ∙ ap (λ (hs : List (Halves (UnitOf (collection_of c)))). map (both_halves (collection_of c)) (map (halves_in (collection_of c)) hs)) (proper_none us (omega arith)),
             )
-        by_splits e Large l v h =
+        by_splits e (Err TooLarge) l v h =
             let us = (has_units v h).units in
             let q = are v h in
             (meets_splits c n v us (has_units v h).has e).1 ∙ lt-ltb most_split (length us) (omega arith)
-        by_splits e (Ways m) (two, few, all) v h =
+        by_splits e (Ok m) (two, few, all) v h =
             let us = (has_units v h).units in
             let a = meets_splits c n v us (has_units v h).has e in
             let q = are v h in
@@ -229,7 +230,7 @@ module _ (c n : ℕ) (s : List ℕ) (p : Part) (k : ℕ) (kind : KindOfPart s p 
             ∙ proper_length us ∙ ap (λ (x : ℕ). 2 ^ x - 2) (sym q) ∙ omega (arith, all) in
             (a.1 ∙ le-ltb most_split (length us) (omega arith), len, omega (arith, all, pow_mono {i = 2} {j = units} two), omega (arith, all, pow_mono {i = units} {j = 7} few))
 
-        pub by_orders : is_paired c ≡ true → count ≡ n → (m : ℕ) → (m ≡ factorial units) × (0 < m) × (m < 256) → Meets c n s p (Ways m)
+        pub by_orders : is_paired c ≡ true → count ≡ n → (m : ℕ) → (m ≡ factorial units) × (0 < m) × (m < 256) → Meets c n s p (Ok m)
         by_orders e d m o v h =
             let us = (has_units v h).units in
             let a = meets_orders c n v us (has_units v h).has e in

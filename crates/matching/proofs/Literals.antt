@@ -1,6 +1,7 @@
 -- A part of a value compared with a literal.
+use Rattle.parts.specs.declared.How.TheVariants.{Whole}
 use mathlib.Core.Path.{◌≡◌, refl, sym, ap, ap₂, ◌∙◌}
-use mathlib.Core.Bool.{Bool, true, false, not}
+use mathlib.Core.Bool.{Bool, true, false, beq}
 use mathlib.Core.Logic.{◌⊎◌, ⊎_elim, inl, inr}
 use mathlib.Core.List.{List}
 use Prim.Native.Nat.{ℕ, ◌<◌}
@@ -24,7 +25,7 @@ use Rattle.tables.specs.Record.{field, boolean_of, integer_of, quote_of, head_of
 use Rattle.tables.specs.Table.{record_at, kind_at}
 use Rattle.tables.specs.Accepted.{records}
 use Rattle.tables.proofs.Laws.Accepted.{lower, fit_least}
-use Rattle.tables.proofs.Laws.Below.{OperandsLower as Lower}
+use Rattle.tables.proofs.Laws.Below.{OperandsLower as Less}
 use Rattle.tables.specs.Reading.{HasField}
 use Rattle.parts.specs.declared.Part.{Part}
 use Rattle.parts.specs.Part.{PartIs, PartHeld}
@@ -40,7 +41,7 @@ outside l (inl h) e = omega (arith, number_low l)
 outside l (inr h) e = omega (arith, number_high l)
 
 -- a part that is no collection is a whole record
-plain_how : {s : List ℕ} {p : Part} {k : ℕ} {v : Value} → KindOfPart s p k → (k < 3) ⊎ (6 < k) → PartIs s p v → p.how ≡ 1
+plain_how : {s : List ℕ} {p : Part} {k : ℕ} {v : Value} → KindOfPart s p k → (k < 3) ⊎ (6 < k) → PartIs s p v → p.how ≡ Whole
 plain_how c l (inl h) = h.0
 plain_how {v = v} c l (inr (inl h)) = absurd (outside h.1.kind l (c v (inr (inl h)) ∙ ap kind_of h.1.is))
 plain_how {v = v} c l (inr (inr h)) = absurd (outside sequence l (c v (inr (inr h)) ∙ ap kind_of h.1.is))
@@ -50,13 +51,11 @@ plain_how {v = v} c l (inr (inr h)) = absurd (outside sequence l (c v (inr (inr 
 apart : {X : Type 0} → boolean true ≡ boolean false → X
 apart e = impossible cc
 
-as_true : (x : Bool) → x ≡ same (boolean x) (boolean true)
-as_true true = sym (true_same {v = boolean true} refl)
-as_true false = sym (false_same (boolean false) (boolean true) (λ e. apart (sym e)))
-
-as_false : (x : Bool) → not x ≡ same (boolean x) (boolean false)
-as_false true = sym (false_same (boolean true) (boolean false) (λ e. apart e))
-as_false false = sym (true_same {v = boolean false} refl)
+truth_same : (x y : Bool) → beq x y ≡ same (boolean x) (boolean y)
+truth_same true true = sym (true_same {v = boolean true} refl)
+truth_same true false = sym (false_same (boolean true) (boolean false) (λ e. apart e))
+truth_same false true = sym (false_same (boolean false) (boolean true) (λ e. apart (sym e)))
+truth_same false false = sym (true_same {v = boolean false} refl)
 
 -- two integers are equal where their bits are
 whole_same : (a b : ℤ) → SFits w32 a → SFits w32 b → eqb (of_z w32 a) (of_z w32 b) ≡ same (integer a) (integer b)
@@ -78,11 +77,11 @@ quote_same m n =
     by_test (eqb m n) (λ e. e ∙ sym (true_same (ap quote (eqb-true m n e))))
     (λ e. e ∙ sym (false_same (quote m) (quote n) (λ q. let r : m ≡ n = cc in eqb-false m n e r)))
 
-module _ (table index : List ℕ) (p : ℕ) (h : LiteralHeld table index p) where
+module _ (table : List ℕ) (p : ℕ) (h : LiteralHeld table p) where
   within : p < length (records table)
-  within = h.readable.here.within
+  within = h.readable.here
 
-  low : Lower (records table)
+  low : Less (records table)
   low = lower (records table) h.readable.fine.clear6
 
   -- ---- the kind, by those that it is not
@@ -106,20 +105,20 @@ module _ (table index : List ℕ) (p : ℕ) (h : LiteralHeld table index p) wher
 
   -- ---- its fields
 
-  head_fields : (k n i : ℕ) → size (shape k).head ≡ n → kind_at (records table) p ≡ k → i < n → HasField table index p i
+  head_fields : (k n i : ℕ) → size (shape k).head ≡ n → kind_at (records table) p ≡ k → i < n → HasField table p i
   head_fields k n i d e l =
       let is : size (head_of (record_at (records table) p)) ≡ n = ap (λ (c : ℕ). size (shape c).head) e ∙ d in
       record { here = h.readable.here; has = omega (arith, fit_least (record_at (records table) p) (h.readable.fine.fit p within)) }
 
-  pub truth_field : kind_at (records table) p ≡ 34 → HasField table index p 0
+  pub truth_field : kind_at (records table) p ≡ 34 → HasField table p 0
   unfolding shape
   truth_field e = head_fields 34 1 0 refl e (omega arith)
 
-  pub whole_field : kind_at (records table) p ≡ 35 → HasField table index p 3
+  pub whole_field : kind_at (records table) p ≡ 35 → HasField table p 3
   unfolding shape
   whole_field e = head_fields 35 4 3 refl e (omega arith)
 
-  pub quote_field : kind_at (records table) p ≡ 43 → HasField table index p 1
+  pub quote_field : kind_at (records table) p ≡ 43 → HasField table p 1
   unfolding shape
   quote_field e = head_fields 43 2 1 refl e (omega arith)
 
@@ -159,12 +158,6 @@ module _ (table index : List ℕ) (p : ℕ) (h : LiteralHeld table index p) wher
       pub both_quote : (m n : ℕ) → kind_at (records table) p ≡ 43 → At s part.at (quote n) → m ≡ quote_of (record_at (records table) p) → LiteralIs table p s part (eqb m n)
       both_quote m n d at e = both (is_quote d) at (quote_same m n ∙ ap (λ (i : ℕ). same (quote i) (quote n)) e)
 
-      module _ (b : Bool) (e : kind_at (records table) p ≡ 34) (at : At s part.at (boolean b)) (x : ℕ) (field_is : x ≡ field (record_at (records table) p) 0) where
-        both_truth : {r : Bool} → r ≡ same (boolean (eqb x 1)) (boolean b) → LiteralIs table p s part r
-        both_truth d = both (is_truth e) at (d ∙ ap (λ (y : ℕ). same (boolean (eqb y 1)) (boolean b)) field_is)
-
-        pub both_true : b ≡ true → LiteralIs table p s part (eqb x 1)
-        both_true t = both_truth (as_true (eqb x 1) ∙ ap (λ (y : Bool). same (boolean (eqb x 1)) (boolean y)) (sym t))
-
-        pub both_false : b ≡ false → LiteralIs table p s part (not (eqb x 1))
-        both_false t = both_truth (as_false (eqb x 1) ∙ ap (λ (y : Bool). same (boolean (eqb x 1)) (boolean y)) (sym t))
+      pub both_truth : (b : Bool) (x : ℕ) → kind_at (records table) p ≡ 34 → At s part.at (boolean b) → x ≡ field (record_at (records table) p) 0
+          → LiteralIs table p s part (beq (eqb x 1) b)
+      both_truth b x d at e = both (is_truth d) at (truth_same (eqb x 1) b ∙ ap (λ (y : ℕ). same (boolean (eqb y 1)) (boolean b)) e)

@@ -9,16 +9,18 @@ use native.Mathlib.Omega.{arith}
 use lib.ListN.{length, get_or, set, length-set, replicate, get_or-replicate}
 use lib.Seq.{get_or-set_same, get_or-set_other}
 use Rattle.prelude.specs.Membership.{In}
-use Rattle.integers.specs.declared.Order.{Order}
-use Rattle.integers.specs.declared.Order.TheVariants.{Lower, Same, Higher}
+use Rattle.std.specs.declared.cmp.Ordering.{Ordering}
+use Rattle.std.specs.declared.cmp.Ordering.TheVariants.{Less, Equal, Greater}
 use Rattle.values.specs.Value.{Value}
-use Rattle.values.specs.Items.{is_same, same}
+use Rattle.std.specs.Ordering.{is_eq}
+use Rattle.values.specs.Items.{same}
 use Rattle.tables.specs.Record.{name_of}
 use Rattle.tables.specs.Table.{record_at, kind_at}
 use Rattle.tables.specs.Accepted.{records}
 use Rattle.parts.specs.declared.Part.{Part}
 use Rattle.parts.specs.Part.{PartIs, PartHeld, CellIs}
-use Rattle.parts.specs.Word.{unpacked, WordHeld, OrderedWords}
+use Rattle.parts.proofs.Packing.{how_none, some_how}
+use Rattle.parts.specs.Word.{how_of, unpacked, WordHeld, OrderedWords}
 use Rattle.patterns.specs.Members.{Alike}
 use Rattle.patterns.specs.Binding.{Cell, free, is, clash, Binding, names, nothing, only, cell_of, agree, merge, consistent, with_each, order_cells}
 use Rattle.patterns.specs.Pattern.{Pattern, name, any, literal, matches}
@@ -74,10 +76,10 @@ clash_at a x l e = go (consistent a) refl
 cell_fine : (s : List ℕ) (p : Part) (c : Cell) → CellIs s p c → is_fine c ≡ true
 cell_fine s p c h = ⊎_elim (λ w. ap is_fine w.1) (λ w. ap is_fine w.1) h
 
-unlike : (o : Order) → (o ≡ Same → ⊥) → (w : Value) → is_fine (cond (is_same o) (is w) clash) ≡ false
-unlike Lower f w = refl
-unlike Same f w = absurd (f refl)
-unlike Higher f w = refl
+unlike : (o : Ordering) → (o ≡ Equal → ⊥) → (w : Value) → is_fine (cond (is_eq o) (is w) clash) ≡ false
+unlike Less f w = refl
+unlike Equal f w = absurd (f refl)
+unlike Greater f w = refl
 
 -- what a match stands for has no clash
 pub stands_fine : (s : List ℕ) (m : List ℕ) (b : Binding) → Stands s m b → Fine b
@@ -135,7 +137,7 @@ pub part_word : (s : List ℕ) (word : ℕ) → PartHeld s (unpacked word) → W
 part_word s word h = record {
   cell = is h.value;
   is = inr (h.value, refl, h.here);
-  blank = λ z. absurd (⊎_elim (λ u. omega (arith, u.0)) (λ u. ⊎_elim (λ y. omega (arith, y.0)) (λ y. omega (arith, y.0)) u) h.here);
+  blank = λ z. absurd (some_how h.here (ap how_of z));
 }
 
 module _ (s : List ℕ) (x : ℕ) (lt : x < names) (word : ℕ) (m : List ℕ) where
@@ -152,7 +154,7 @@ module _ (s : List ℕ) (x : ℕ) (lt : x < names) (word : ℕ) (m : List ℕ) w
       inside = omega (arith, h.sized)
 
       was_free : cell_of b x ≡ free
-      was_free = ⊎_elim (λ w. w.1) (λ w. absurd (⊎_elim (λ u. omega (arith, u.0)) (λ u. ⊎_elim (λ z. omega (arith, z.0)) (λ z. omega (arith, z.0)) u) w.2)) (h.cells x lt)
+      was_free = ⊎_elim (λ w. w.1) (λ w. absurd (some_how w.2 (ap (λ (k : ℕ). how_of (k % 4)) e))) (h.cells x lt)
 
       cell : (n : ℕ) → n < names → Dec (n ≡ x) → CellIs s (unpacked (get_or (set m x word) n 0)) (cell_of (merge b (only x v)) n)
       cell n l (yes q) =
@@ -165,7 +167,7 @@ module _ (s : List ℕ) (x : ℕ) (lt : x < names) (word : ℕ) (m : List ℕ) w
           (subst (CellIs s (unpacked (get_or m n 0))) (there s x lt v b h.binding_sized n l q) (h.cells n l))
 
       how_some : word % 4 ≡ 0 → ⊥
-      how_some z = ⊎_elim (λ u. omega (arith, u.0)) (λ u. ⊎_elim (λ y. omega (arith, y.0)) (λ y. omega (arith, y.0)) u) hp
+      how_some z = some_how hp (ap how_of z)
 
       blank : (n : ℕ) → n < names → Dec (n ≡ x) → get_or (set m x word) n 0 % 4 ≡ 0 → get_or (set m x word) n 0 ≡ 0
       blank n l (yes q) z =
@@ -179,17 +181,17 @@ module _ (s : List ℕ) (x : ℕ) (lt : x < names) (word : ℕ) (m : List ℕ) w
   pub word_held : Standing s m → WordHeld s (get_or m x 0)
   word_held (b, h) = record { cell = cell_of b x; is = h.cells x lt; blank = h.blank x lt }
 
-  module _ (f : get_or m x 0 ≡ 0 → ⊥) (o : Order) (c : OrderedWords s (get_or m x 0) word o) where
+  module _ (f : get_or m x 0 ≡ 0 → ⊥) (o : Ordering) (c : OrderedWords s (get_or m x 0) word o) where
     has : (b : Binding) → Stands s m b → (w : Value) × (cell_of b x ≡ is w)
-    has b h = ⊎_elim (λ z. absurd (f (h.blank x lt z.0))) (λ z. (z.0, z.1)) (h.cells x lt)
+    has b h = ⊎_elim (λ z. absurd (f (h.blank x lt (how_none (get_or m x 0 % 4) z.0)))) (λ z. (z.0, z.1)) (h.cells x lt)
 
-    met : (v : Value) (b : Binding) (hp : PartIs s (unpacked word) v) (h : Stands s m b) → cell_of (merge b (only x v)) x ≡ cond (is_same o) (is (has b h).0) clash
+    met : (v : Value) (b : Binding) (hp : PartIs s (unpacked word) v) (h : Stands s m b) → cell_of (merge b (only x v)) x ≡ cond (is_eq o) (is (has b h).0) clash
     met v b hp h =
         let w = has b h in
         let d : o ≡ order_cells (is w.0) (is v) = c (is w.0) (is v) (subst (CellIs s (unpacked (get_or m x 0))) w.1 (h.cells x lt)) (inr (v, refl, hp)) in
-        at s x lt v b h.binding_sized x ∙ ap₂ agree w.1 (only_here s x lt v b h.binding_sized) ∙ ap (λ (k : Order). cond (is_same k) (is w.0) clash) (sym d)
+        at s x lt v b h.binding_sized x ∙ ap₂ agree w.1 (only_here s x lt v b h.binding_sized) ∙ ap (λ (k : Ordering). cond (is_eq k) (is w.0) clash) (sym d)
 
-    pub agrees : o ≡ Same → Named s x word m m true
+    pub agrees : o ≡ Equal → Named s x word m m true
     agrees q v b hp h = went s x lt v b h.binding_sized m (record {
       sized = h.sized;
       binding_sized = both_sized s x lt v b h.binding_sized;
@@ -200,11 +202,11 @@ module _ (s : List ℕ) (x : ℕ) (lt : x < names) (word : ℕ) (m : List ℕ) w
         cell : (n : ℕ) → n < names → Dec (n ≡ x) → CellIs s (unpacked (get_or m n 0)) (cell_of (merge b (only x v)) n)
         cell n l (yes d) =
             let w = has b h in
-            let e : cell_of (merge b (only x v)) n ≡ cell_of b n = ap (cell_of (merge b (only x v))) d ∙ met v b hp h ∙ ap (λ (k : Order). cond (is_same k) (is w.0) clash) q ∙ sym w.1 ∙ ap (cell_of b) (sym d) in
+            let e : cell_of (merge b (only x v)) n ≡ cell_of b n = ap (cell_of (merge b (only x v))) d ∙ met v b hp h ∙ ap (λ (k : Ordering). cond (is_eq k) (is w.0) clash) q ∙ sym w.1 ∙ ap (cell_of b) (sym d) in
             subst (CellIs s (unpacked (get_or m n 0))) (sym e) (h.cells n l)
         cell n l (no d) = subst (CellIs s (unpacked (get_or m n 0))) (there s x lt v b h.binding_sized n l d) (h.cells n l)
 
-    pub clashes : (o ≡ Same → ⊥) → Named s x word m m false
+    pub clashes : (o ≡ Equal → ⊥) → Named s x word m m false
     clashes q v b hp h = record {
       good = λ e. true_false (sym e);
       bad = λ e.
@@ -218,7 +220,7 @@ pub nothing_stands : (s : List ℕ) → Stands s (replicate names 0) nothing
 nothing_stands s = record {
   sized = refl;
   binding_sized = refl;
-  cells = λ n l. inl (ap (λ (k : ℕ). k % 4) (get_or-replicate names n 0 0 l), get_or-replicate names n free free l);
+  cells = λ n l. inl (ap (λ (k : ℕ). how_of (k % 4)) (get_or-replicate names n 0 0 l), get_or-replicate names n free free l);
   blank = λ n l e. get_or-replicate names n 0 0 l;
 }
 
@@ -236,22 +238,22 @@ with_literal w v b h = go (same w v)
     go true = with_only b h
     go false = refl
 
-module _ (table index : List ℕ) (p : ℕ) (r : Readable table index p) (s : List ℕ) (word : ℕ) (m : List ℕ) where
+module _ (table : List ℕ) (p : ℕ) (r : Readable table p) (s : List ℕ) (word : ℕ) (m : List ℕ) where
   pub leaf_name : (x : ℕ) (g : List ℕ) (t : Bool) → kind_at (records table) p ≡ 32 → x ≡ name_of (record_at (records table) p) → Named s x word m g t → LeafTold table p s word m g t
-  leaf_name x g t e n h v b q z = subst (λ (k : Pattern). Went s b k v g t) (ap name n ∙ sym (by_record table index p r ∙ is_name (record_at (records table) p) (inner_of table p) e)) (h v b q z)
+  leaf_name x g t e n h v b q z = subst (λ (k : Pattern). Went s b k v g t) (ap name n ∙ sym (by_record table p r ∙ is_name (record_at (records table) p) (inner_of table p) e)) (h v b q z)
 
   stays : (k : Pattern) (v : Value) (b : Binding) → with_each b (matches k v) ≡ b ∷ [] → Stands s m b → Went s b k v m true
   stays k v b e z = record { good = λ f. (b, same_alike (with_each b (matches k v)) (b ∷ []) e, z); bad = λ f. true_false f }
 
   pub leaf_any : kind_at (records table) p ≡ 33 → LeafTold table p s word m m true
   leaf_any e v b q z =
-      subst (λ (k : Pattern). Went s b k v m true) (sym (by_record table index p r ∙ is_any (record_at (records table) p) (inner_of table p) e))
+      subst (λ (k : Pattern). Went s b k v m true) (sym (by_record table p r ∙ is_any (record_at (records table) p) (inner_of table p) e))
       (stays any v b (with_any v b (stands_fine s m b z)) z)
 
-  module _ (h : LiteralHeld table index p) (part : Part) (pe : part ≡ unpacked word) (t : Bool) (l : LiteralIs table p s part t) where
+  module _ (h : LiteralHeld table p) (part : Part) (pe : part ≡ unpacked word) (t : Bool) (l : LiteralIs table p s part t) where
     tells : (v : Value) (b : Binding) → PartIs s (unpacked word) v → Stands s m b → with_each b (matches (pattern_at (records table) p) v) ≡ cond t (b ∷ []) []
     tells v b q z =
-        let (w, e) = is_literal table index p r h in
+        let (w, e) = is_literal table p r h in
         let y : t ≡ same w v = l v w (subst (λ (k : Part). PartIs s k v) (sym pe) q) e in
         ap (λ (k : Pattern). with_each b (matches k v)) e ∙ with_literal w v b (stands_fine s m b z) ∙ ap (λ (u : Bool). cond u (b ∷ []) []) (sym y)
 

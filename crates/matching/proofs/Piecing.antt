@@ -11,7 +11,7 @@ use lib.Arith.{digits_lt}
 use lib.Dec.{eqb}
 use lib.ListN.{length, get_or, length-map}
 use lib.Pow.{pow_mono}
-use borrow.Author.Tests.{eqb-true, ltb-false}
+use borrow.Author.Tests.{eq-eqb, ne_eqb, eqb-true, ltb-false}
 use Rattle.prelude.proofs.Lists.{map_at}
 use Rattle.prelude.proofs.Membership.{at_in}
 use Rattle.values.specs.Value.{Kind, sequence, number, kind_of, Value, collection}
@@ -19,7 +19,7 @@ use Rattle.values.specs.Place.{At}
 use Rattle.parts.specs.declared.Part.{Part}
 use Rattle.parts.specs.declared.Halves.{Halves}
 use Rattle.parts.specs.Part.{PartIs}
-use Rattle.parts.specs.Contract.{ItemHeld, ItemOfPart, HalvesAre, UnitsHere, SplitHeld, SplitOf, CutHeld, CutOf}
+use Rattle.parts.specs.Contract.{CollectionHeld, ItemHeld, ItemOfPart, HalvesAre, UnitsHere, SplitHeld, SplitOf, CutHeld, CutOf}
 use Rattle.parts.proofs.Laws.{part_one, part_well_formed}
 use Rattle.parts.specs.Chosen.{split_at}
 use Rattle.parts.proofs.Chosen.{proper_length, nth_split, nth_proper, cuts_length}
@@ -57,6 +57,9 @@ module _ (c n : ℕ) (s : List ℕ) (p : Part) (d i : ℕ) (h : PieceHeld c n s 
   here : (k : Kind) → collection_of c ≡ k → PartIs s p (collection k (items_of vs))
   here k e = subst (λ (q : Kind). PartIs s p (collection q (items_of vs))) e (subst (PartIs s p) has_value.is h.here)
 
+  pub held : CollectionHeld s p
+  held = record { kind = collection_of c; items = vs; here = here (collection_of c) refl }
+
   -- whatever value the part denotes, it is that one
   same_value : (v : Value) → PartIs s p v → v ≡ h.value
   same_value v q = part_one q h.here
@@ -66,6 +69,13 @@ module _ (c n : ℕ) (s : List ℕ) (p : Part) (d i : ℕ) (h : PieceHeld c n s 
   -- the two halves are what the two parts meet
   abbrev pub Met : Halves → Type 0
   Met r = (i ≡ 0 → PieceOf c n s p d i r.left) × ((i ≡ 0 → ⊥) → PieceOf c n s p d i r.right)
+
+  pub half_meets : (r : Halves) → Met r → PieceOf c n s p d i (cond (eqb i 0) r.left r.right)
+  half_meets r (f, g) = go (ℕ_discrete i 0)
+    where
+      go : Dec (i ≡ 0) → PieceOf c n s p d i (cond (eqb i 0) r.left r.right)
+      go (yes e) = subst (λ (t : Bool). PieceOf c n s p d i (cond t r.left r.right)) (sym (eq-eqb i 0 e)) (f e)
+      go (no e) = subst (λ (t : Bool). PieceOf c n s p d i (cond t r.left r.right)) (sym (ne_eqb i 0 e)) (g e)
 
   halves_meet : (k : Kind) (g : Split Value) → n ≡ 2 → get_or (meetings c n h.value) d [] ≡ both_halves k g → (r : Halves) → HalvesAre s k g r → Met r
   halves_meet k g two way r o = (

@@ -17,7 +17,7 @@ use Rattle.tables.specs.Table.{record_at, kind_at}
 use Rattle.tables.specs.Accepted.{records}
 use Rattle.tables.proofs.Laws.Accepted.{lower, pattern_role, operand_lower, operand_sort, named_count, fit_least, fit_most, fit_known}
 use Rattle.tables.proofs.Laws.Through.{EachTo}
-use Rattle.tables.proofs.Laws.Below.{OperandsLower as Lower}
+use Rattle.tables.proofs.Laws.Below.{OperandsLower as Less}
 use Rattle.tables.specs.Reading.{HasField, HasOperand}
 use Rattle.parts.specs.declared.Part.{Part}
 use Rattle.patterns.specs.Ways.{Halves, orders}
@@ -32,7 +32,8 @@ use Rattle.patterns.specs.Read.{Readable, patterns_of, pattern_of, pattern_at}
 use Rattle.patterns.proofs.Laws.Some.{some_at, some-none}
 use Rattle.patterns.specs.Nodes.{collection_of, width, is_halved, meetings, both_halves}
 use Rattle.patterns.proofs.Laws.Nodes.{is_boolean_literal, is_integer_literal, is_quote_literal, pattern_at_lem}
-use Rattle.matching.specs.declared.nodes.Meeting.{Meeting}
+use Rattle.std.specs.Prelude.{Result}
+use Rattle.matching.specs.declared.nodes.Misfit.{Misfit}
 use Rattle.matching.specs.Node.{LiteralHeld, Meets, inner_of}
 use Rattle.matching.proofs.Counting.{contents_other, contents_same, width_range, in_turn}
 
@@ -59,11 +60,11 @@ named_head : (c : ℕ) (r : Record) → c ≡ 32 → (size (shape c).head ≡ 1)
 unfolding shape
 named_head c r e = subst (λ (k : ℕ). (size (shape k).head ≡ 1) × (is_known (shape k).head r ≡ leb (name_of r) 15)) (sym e) (refl, refl)
 
-module _ (table index : List ℕ) (p : ℕ) (r : Readable table index p) where
+module _ (table : List ℕ) (p : ℕ) (r : Readable table p) where
   within : p < length (records table)
-  within = r.here.within
+  within = r.here
 
-  low : Lower (records table)
+  low : Less (records table)
   low = lower (records table) r.fine.clear6
 
   -- ---- a name
@@ -71,7 +72,7 @@ module _ (table index : List ℕ) (p : ℕ) (r : Readable table index p) where
   name_head : kind_at (records table) p ≡ 32 → (size (head_of (record_at (records table) p)) ≡ 1) × (is_known (head_of (record_at (records table) p)) (record_at (records table) p) ≡ leb (name_of (record_at (records table) p)) 15)
   name_head e = named_head (kind_at (records table) p) (record_at (records table) p) e
 
-  pub name_field : kind_at (records table) p ≡ 32 → HasField table index p 0
+  pub name_field : kind_at (records table) p ≡ 32 → HasField table p 0
   name_field e = record { here = r.here; has = omega (arith, fit_least (record_at (records table) p) (r.fine.fit p within), (name_head e).0) }
 
   pub name_small : kind_at (records table) p ≡ 32 → name_of (record_at (records table) p) < 16
@@ -85,12 +86,12 @@ module _ (table index : List ℕ) (p : ℕ) (r : Readable table index p) where
   pub inner_length : length (inner_of table p) ≡ length (named (record_at (records table) p))
   inner_length = length-map (named (record_at (records table) p)) (pattern_at (records table))
 
-  pub literal_held : (kind_at (records table) p ≡ 32 → ⊥) → (kind_at (records table) p ≡ 33 → ⊥) → is_composed (kind_at (records table) p) ≡ false → LiteralHeld table index p
+  pub literal_held : (kind_at (records table) p ≡ 32 → ⊥) → (kind_at (records table) p ≡ 33 → ⊥) → is_composed (kind_at (records table) p) ≡ false → LiteralHeld table p
   literal_held a b k =
       by_leaf (kind_at (records table) p) r.pattern k (λ e. absurd (a e)) (λ e. absurd (b e)) (λ e. record { readable = r; kind = inl e }) (λ e. record { readable = r; kind = inr (inl e) })
       (λ e. record { readable = r; kind = inr (inr e) })
 
-  pub is_literal : LiteralHeld table index p → (w : Value) × (pattern_at (records table) p ≡ literal w)
+  pub is_literal : LiteralHeld table p → (w : Value) × (pattern_at (records table) p ≡ literal w)
   is_literal h =
       ⊎_elim (λ e. (_, by_record ∙ is_boolean_literal (record_at (records table) p) (inner_of table p) e))
       (⊎_elim (λ e. (_, by_record ∙ is_integer_literal (record_at (records table) p) (inner_of table p) e))
@@ -119,37 +120,37 @@ module _ (table index : List ℕ) (p : ℕ) (r : Readable table index p) where
         omega (arith, named_count (record_at (records table) p) (r.fine.fit p within), fit_least (record_at (records table) p) (r.fine.fit p within), fit_most (record_at (records table) p) (r.fine.fit p within), shaped.no_head, t.0, t.1)
 
   module _ (i : ℕ) (l : i < length (named (record_at (records table) p))) where
-    pub has_operand : HasOperand table index p i
+    pub has_operand : HasOperand table p i
     has_operand = record { here = r.here; has = l }
 
-    pub operand_readable : (q : ℕ) → q ≡ operand (record_at (records table) p) i → Readable table index q × (q < p)
+    pub operand_readable : (q : ℕ) → q ≡ operand (record_at (records table) p) i → Readable table q × (q < p)
     operand_readable q e =
         let lo : operand (record_at (records table) p) i < p = operand_lower (records table) r.fine.clear6 p i within l in
         let so = operand_sort (records table) r.fine.clear6 p i within l in
         let ro = pattern_role (record_at (records table) p) i r.pattern l in
-        (record { fine = r.fine; here = record { indexed = r.here.indexed; within = omega arith }; pattern = rw e (rw ro at so) }, omega arith)
+        (record { fine = r.fine; here = omega arith; pattern = rw e (rw ro at so) }, omega arith)
 
 -- ---- some part is so: a test of patterns, and whether some of several patterns passes it
 
 module _ (test : Pattern → Bool) (some : Patterns → Bool) (none : some nil ≡ false) (more : (p : Pattern) (ps : Patterns) → some (cons p ps) ≡ test p || some ps)
-    (table index : List ℕ) (p : ℕ) (r : Readable table index p) (by_parts : test (pattern_at (records table) p) ≡ some (patterns_of (inner_of table p))) where
+    (table : List ℕ) (p : ℕ) (r : Readable table p) (by_parts : test (pattern_at (records table) p) ≡ some (patterns_of (inner_of table p))) where
   part_at : (j : ℕ) → j < length (named (record_at (records table) p)) → get_or (inner_of table p) j any ≡ pattern_at (records table) (operand (record_at (records table) p) j)
   part_at j l = map_at (pattern_at (records table)) (named (record_at (records table) p)) j 0 any l
 
   -- one of them is,
   pub some_part : (i q : ℕ) → i < length (named (record_at (records table) p)) → q ≡ operand (record_at (records table) p) i → test (pattern_at (records table) q) ≡ true → test (pattern_at (records table) p) ≡ true
   some_part i q l e t =
-      by_parts ∙ some_at test some none more (inner_of table p) i (omega (arith, inner_length table index p r))
+      by_parts ∙ some_at test some none more (inner_of table p) i (omega (arith, inner_length table p r))
       (ap test (part_at i l ∙ ap (pattern_at (records table)) (sym e)) ∙ t)
 
   -- or none up to the last.
   pub no_part : (i : ℕ) → EachTo (λ q. test (pattern_at (records table) q) ≡ false) (record_at (records table) p) i → length (named (record_at (records table) p)) ≤ i → test (pattern_at (records table) p) ≡ false
   no_part i h l =
       by_parts ∙ some-none test some none more (inner_of table p) (λ j k.
-      let m : j < length (named (record_at (records table) p)) = omega (arith, inner_length table index p r) in
+      let m : j < length (named (record_at (records table) p)) = omega (arith, inner_length table p r) in
       ap test (part_at j m) ∙ h j (omega arith))
 
-pub recast_meets : {c k : ℕ} (kind n : ℕ) (s : List ℕ) (part : Part) (m : Meeting) → kind ≡ c → n ≡ k → Meets kind n s part m → Meets c k s part m
+pub recast_meets : {c k : ℕ} (kind n : ℕ) (s : List ℕ) (part : Part) (m : Result ℕ Misfit) → kind ≡ c → n ≡ k → Meets kind n s part m → Meets c k s part m
 recast_meets {c} {k} kind n s part m e f h = subst (λ (x : ℕ). Meets x k s part m) e (subst (λ (y : ℕ). Meets kind y s part m) f h)
 
 -- ---- a meeting has as many values as there are parts

@@ -1,5 +1,5 @@
 -- What the functions on the parts of a pattern ask and promise.
-use Rattle.std.specs.Prelude.{◌≡◌, Bool, true, false, ◌||◌, List, [], map, ◌⊎◌, ℕ, ◌+◌, ◌*◌, ◌^◌, ◌≤◌, ◌<◌, eqb, length, get_or}
+use Rattle.std.specs.Prelude.{◌≡◌, Bool, true, false, ◌||◌, List, [], map, ◌⊎◌, ℕ, ◌+◌, ◌*◌, ◌^◌, ◌≤◌, ◌<◌, eqb, length, get_or, Result, Ok, Err}
 use Rattle.values.specs.Value.{Kind, Value}
 use Rattle.values.specs.Items.{same}
 use Rattle.tables.specs.Record.{named, is_composed}
@@ -11,12 +11,12 @@ use Rattle.patterns.specs.Ways.{orders}
 use Rattle.patterns.specs.Pattern.{Pattern, literal, UnitOf, most_split}
 use Rattle.patterns.specs.Nodes.{collection_of, width, meetings, is_large, is_halved}
 use Rattle.patterns.specs.Read.{Readable, pattern_at}
-use Rattle.matching.specs.declared.nodes.Meeting.{Meeting}
-use Rattle.matching.specs.declared.nodes.Meeting.TheVariants.{Unfit, Large, Ways}
+use Rattle.matching.specs.declared.nodes.Misfit.{Misfit}
+use Rattle.matching.specs.declared.nodes.Misfit.TheVariants.{Unfit, TooLarge}
 
 -- A pattern without parts.
-pub record LeafHeld (table index : List ℕ) (p : ℕ) : Type 0 where
-  pub readable : Readable table index p
+pub record LeafHeld (table : List ℕ) (p : ℕ) : Type 0 where
+  pub readable : Readable table p
   pub leaf : is_composed (kind_at (records table) p) ≡ false
 
 -- r is the number of the unit that stands at i in the d-th order of n
@@ -32,18 +32,18 @@ abbrev pub is_paired : ℕ → Bool
 is_paired c = eqb c 37 || eqb c 41
 
 -- What an answer says of the splits of so many units: all but the two with an empty half are ways.
-abbrev pub SplitsAs : ℕ → Meeting → Type 0
-SplitsAs units Unfit = units < 2
-SplitsAs units Large = most_split < units
-SplitsAs units (Ways m) = (2 ≤ units) × (units ≤ most_split) × (m + 2 ≡ 2 ^ units)
+abbrev pub SplitsAs : ℕ → Result ℕ Misfit → Type 0
+SplitsAs units (Err Unfit) = units < 2
+SplitsAs units (Err TooLarge) = most_split < units
+SplitsAs units (Ok m) = (2 ≤ units) × (units ≤ most_split) × (m + 2 ≡ 2 ^ units)
 
 -- What an answer says of the ways in which n parts of a pattern of kind c meet a value.
-abbrev pub MeetsAs : ℕ → ℕ → Value → Meeting → Type 0
-MeetsAs c n v Unfit = (is_large c v ≡ false) × (meetings c n v ≡ [])
-MeetsAs c n v Large = is_large c v ≡ true
-MeetsAs c n v (Ways m) = (is_large c v ≡ false) × (length (meetings c n v) ≡ m) × (0 < m) × (m < 256)
+abbrev pub MeetsAs : ℕ → ℕ → Value → Result ℕ Misfit → Type 0
+MeetsAs c n v (Err Unfit) = (is_large c v ≡ false) × (meetings c n v ≡ [])
+MeetsAs c n v (Err TooLarge) = is_large c v ≡ true
+MeetsAs c n v (Ok m) = (is_large c v ≡ false) × (length (meetings c n v) ≡ m) × (0 < m) × (m < 256)
 
-abbrev pub Meets : ℕ → ℕ → List ℕ → Part → Meeting → Type 0
+abbrev pub Meets : ℕ → ℕ → List ℕ → Part → Result ℕ Misfit → Type 0
 Meets c n s p r = (v : Value) → PartIs s p v → MeetsAs c n v r
 
 -- A way in which n parts meet a value, and the number of one of these parts, in a slice whose places fit.
@@ -63,8 +63,8 @@ abbrev pub PieceOf : ℕ → ℕ → List ℕ → Part → ℕ → ℕ → Part 
 PieceOf c n s p d i r = (v z : Value) → PartIs s p v → PartIs s r (get_or (get_or (meetings c n v) d []) i z)
 
 -- A record of kind 34, 35 or 43.
-pub record LiteralHeld (table index : List ℕ) (p : ℕ) : Type 0 where
-  pub readable : Readable table index p
+pub record LiteralHeld (table : List ℕ) (p : ℕ) : Type 0 where
+  pub readable : Readable table p
   pub kind : (kind_at (records table) p ≡ 34) ⊎ ((kind_at (records table) p ≡ 35) ⊎ (kind_at (records table) p ≡ 43))
 
 -- r says whether the part denotes the literal

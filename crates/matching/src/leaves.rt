@@ -7,10 +7,11 @@ ghost use Rattle.matching.specs.Node.{LeafHeld};
 ghost use Rattle.matching.specs.Leaf.{Standing, Grown, Named, LeafTold};
 
 use crate::nodes;
-use integers::Order;
 use parts::words;
 use parts::words::Env;
-use tables::{Index, kinds};
+use std::cmp::Ordering;
+use tables::kinds;
+use tables::sheet::Sheet;
 
 // Binds a name to a part, where it has no other value.
 fn bind_name(s: &[u8], x: usize, word: u32, found: &mut [u32; Env::NAMES]) -> bool
@@ -22,34 +23,29 @@ fn bind_name(s: &[u8], x: usize, word: u32, found: &mut [u32; Env::NAMES]) -> bo
         found[x] = word;
         return true;
     }
-    let o = words::order_words(s, old, word);
-    if let Order::Same = o {
-        return true;
-    }
-    false
+    words::order_words(s, old, word) == Ordering::Equal
 }
 
 // A pattern without parts, and what is found: whether it agrees, no name having two values.
 pub fn match_leaf(
-    table: &[u8],
-    index: &Index,
+    sheet: &Sheet,
     p: usize,
     s: &[u8],
     word: u32,
     found: &mut [u32; Env::NAMES],
 ) -> bool
-    requires leaf_held { LeafHeld table.now index.now p }
+    requires leaf_held { LeafHeld sheet.now p }
     requires part_held { PartHeld s.now (unpacked word) × Standing s.now found.old }
-    ensures { LeafTold table.now p s.now word found.old found.new result × Grown found.old found.new }
+    ensures { LeafTold sheet.now p s.now word found.old found.new result × Grown found.old found.new }
 {
-    let kind = tables::reading::kind(table, index, p);
+    let kind = sheet.kind(p);
     if kind == kinds::NAME_PATTERN {
-        let x = tables::reading::field(table, index, p, 0);
+        let x = sheet.field(p, 0);
         return bind_name(s, x, word, found);
     }
     if kind == kinds::ANY_PATTERN {
         return true;
     }
     let part = words::unpack(word);
-    nodes::is_literal(table, index, p, s, part)
+    nodes::is_literal(sheet, p, s, part)
 }

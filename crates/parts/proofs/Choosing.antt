@@ -2,9 +2,12 @@
 use mathlib.Core.Path.{◌≡◌, refl, sym, ap, subst, ◌∙◌}
 use mathlib.Core.List.{List, [], ◌∷◌}
 use Prim.Native.Nat.{ℕ, zero, suc, ◌+◌, ◌*◌, ◌-◌, ◌/◌, ◌%◌, ◌^◌, ◌≤◌, ◌<◌}
-use native.Mathlib.Nat.{pow-suc, mul_assoc, suc-mul}
+use native.Mathlib.Nat.{pow-suc, mul_assoc, suc-mul, div-le_self}
 use native.Mathlib.Omega.{arith}
 use lib.ListN.{length, drop, get_or}
+use Rattle.std.proofs.Common.{add-one}
+use Rattle.std.proofs.lemmas.List.{drop-drop}
+use Rattle.std.proofs.lemmas.Nat.{shr-shr}
 use borrow.Author.Tests.{lt-ltb, le-ltb}
 use Rattle.values.specs.Value.{Kind}
 use Rattle.patterns.specs.Ways.{to_left, to_right}
@@ -164,3 +167,48 @@ dealt_all m d l low f = record {
   left = λ k us h b. let (e, z) = f k us h in z.left ∙ ap (λ (n : ℕ). lefts (keep m us) n) (none_over e (2 ^ length (keep m us)) z.number d z.is b);
   right = λ k us h b. let (e, z) = f k us h in z.right ∙ ap (λ (n : ℕ). rights (keep m us) n) (none_over e (2 ^ length (keep m us)) z.number d z.is b);
 }
+
+-- ---- bit by bit, the highest first
+
+fits_past : (i m : ℕ) (k : Kind) (us : List (UnitOf k)) → m < 2 ^ length us → m / 2 ^ i < 2 ^ length (drop i us)
+fits_past zero m k us h = omega arith
+fits_past (suc i) m k us h =
+    let g = half_fits (m / 2 ^ i) (drop i us) (fits_past i m k us h) in
+    let e : m / 2 ^ i / 2 ≡ m / 2 ^ suc i = shr-shr m i 1 ∙ ap (λ (n : ℕ). m / 2 ^ n) (add-one i) in
+    let f : drop 1 (drop i us) ≡ drop (suc i) us = drop-drop 1 i us ∙ ap (λ (n : ℕ). drop n us) (add-one i) in
+    subst (λ (n : ℕ). n < 2 ^ length (drop (suc i) us)) e (subst (λ (l : List (UnitOf k)). m / 2 ^ i / 2 < 2 ^ length l) f g)
+
+-- The units past the first i, of those that m chooses, are dealt out.
+pub record Sharing (m d i : ℕ) (x : Dealing) : Type 0 where
+  pub low : x.left ≤ m / 2 ^ i
+  pub more : (k : Kind) (us : List (UnitOf k)) → m < 2 ^ length us → Dealt d (m / 2 ^ i) x.left x.rest (drop i us)
+
+module _ {m d : ℕ} where
+  pub sharing_start : m < 128 → Sharing m d 7 (record { left = 0; rest = d })
+  sharing_start h = record { low = omega arith; more = λ k us l. dealt_none d (m / 2 ^ 7) (drop 7 us) (omega arith) }
+
+  module _ {k : ℕ} {x : Dealing} (s : Sharing m d k x) (some : 0 < k) where
+    next : k - 1 + 1 ≡ k
+    next = omega arith
+
+    pub sharing_low : m < 128 → (m / 2 ^ (k - 1) < 128) × (x.left ≤ m / 2 ^ (k - 1) / 2)
+    sharing_low h =
+        let e = shr-shr m (k - 1) 1 ∙ ap (λ (n : ℕ). m / 2 ^ n) next in
+        (omega (arith, div-le_self m (2 ^ (k - 1))), omega (arith, s.low, e))
+
+    pub sharing_more : {r : Dealing} → Deals (m / 2 ^ (k - 1)) x r → Sharing m d (k - 1) r
+    sharing_more h = record {
+      low = h.low;
+      more = λ l us b.
+          let e = shr-shr m (k - 1) 1 ∙ ap (λ (n : ℕ). m / 2 ^ n) next in
+          let f = drop-drop 1 (k - 1) us ∙ ap (λ (n : ℕ). drop n us) next in
+          h.more d l (drop (k - 1) us) (fits_past (k - 1) m l us b)
+          (subst (λ (n : ℕ). Dealt d n x.left x.rest (drop 1 (drop (k - 1) us))) (sym e) (subst (Dealt d (m / 2 ^ k) x.left x.rest) (sym f) (s.more l us b)));
+    }
+
+  pub sharing_end : {k : ℕ} {x : Dealing} → Sharing m d k x → k ≤ 0 → Spread m d x.left
+  sharing_end {k} {x} s h =
+      let z : k ≡ 0 = omega arith in
+      let e : m / 2 ^ k ≡ m = ap (λ (n : ℕ). m / 2 ^ n) z ∙ omega arith in
+      dealt_all m d x.left (omega (arith, s.low, e)) (λ l us b.
+      (x.rest, subst (λ (n : ℕ). Dealt d n x.left x.rest us) e (subst (λ (n : ℕ). Dealt d (m / 2 ^ k) x.left x.rest (drop n us)) z (s.more l us b))))

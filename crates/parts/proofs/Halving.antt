@@ -1,4 +1,5 @@
 -- The halves of a part, said of lists, places and numbers alone.
+use Rattle.parts.specs.declared.How.TheVariants.{Units, Span}
 use mathlib.Core.Bool.{true}
 use mathlib.Core.Path.{◌≡◌, refl, sym, ap, subst, ◌∙◌}
 use mathlib.Core.Logic.{inl, inr}
@@ -34,15 +35,15 @@ no_sequence : {k : Kind} {vs ws : Items} → is_unordered k ≡ true → collect
 no_sequence {k} u e = never (sym (ap is_unordered (number_inj k sequence (ap kind_of e))) ∙ u)
 
 -- a set or map is no span, a sequence no choice of units
-unordered_how : {s : List ℕ} {p : Part} {k : Kind} {vs : Items} → is_unordered k ≡ true → PartIs s p (collection k vs) → p.how ≡ 3 → ⊥
-unordered_how u (inl h) e = omega (arith, h.0)
-unordered_how u (inr (inl h)) e = omega (arith, h.0)
+unordered_how : {s : List ℕ} {p : Part} {k : Kind} {vs : Items} → is_unordered k ≡ true → PartIs s p (collection k vs) → p.how ≡ Span → ⊥
+unordered_how u (inl h) e = cc (h.0)
+unordered_how u (inr (inl h)) e = cc (h.0)
 unordered_how u (inr (inr h)) e = no_sequence u h.1.is
 
-sequence_how : {s : List ℕ} {p : Part} {vs : Items} → PartIs s p (collection sequence vs) → p.how ≡ 2 → ⊥
-sequence_how (inl h) e = omega (arith, h.0)
+sequence_how : {s : List ℕ} {p : Part} {vs : Items} → PartIs s p (collection sequence vs) → p.how ≡ Units → ⊥
+sequence_how (inl h) e = cc (h.0)
 sequence_how (inr (inl h)) e = no_sequence h.1.unordered (sym h.1.is)
-sequence_how (inr (inr h)) e = omega (arith, h.0)
+sequence_how (inr (inr h)) e = cc (h.0)
 
 -- so many items are so many units
 units_of_items : (k : Kind) (n l : ℕ) → n ≡ width k * l → n / width k ≡ l
@@ -58,7 +59,7 @@ module _ {s : List ℕ} {p : Part} where
   pub countable_part : Countable s p → PartHeld s p
   countable_part h = record { value = collection h.kind (items_of (items_in h.kind h.units)); here = h.here.1 }
 
-  pub mask_selects : p.how ≡ 2 → Countable s p → MaskOf s p p.extent
+  pub mask_selects : p.how ≡ Units → Countable s p → MaskOf s p p.extent
   mask_selects e h = record { low = selects_low (selects_of e h.here.1); right = λ k us g. selects_of e g.1 }
 
   module _ {kind n w : ℕ} (a : KindOfPart s p kind) (b : CountOfPart s p n) (c : WidthOf kind w) where
@@ -70,7 +71,7 @@ module _ {s : List ℕ} {p : Part} where
     pub counted_few : Countable s p → n / w ≤ 7
     counted_few h = let e = counted_units h.kind h.units h.here.1 in let f = h.few in omega arith
 
-    pub mask_full : {m : ℕ} → (p.how ≡ 2 → ⊥) → Countable s p → Full (n / w) m → MaskOf s p m
+    pub mask_full : {m : ℕ} → (p.how ≡ Units → ⊥) → Countable s p → Full (n / w) m → MaskOf s p m
     mask_full {m} f h g = record { low = g.small; right = λ k us (u, x). go k us u x x }
       where
         go : (k : Kind) (us : List (UnitOf k)) → is_unordered k ≡ true → PartIs s p (collection k (items_of (items_in k us))) → PartIs s p (collection k (items_of (items_in k us)))
@@ -118,7 +119,7 @@ module _ {s : List ℕ} {p : Part} where
           }
 
       right : (k : Kind) (us : List (UnitOf k)) → UnitsHere s p k us → Selects s p.at m (collection k (items_of (items_in k us)))
-          → HalvesAre s k (halves_in k (get_or (splits us) d (halves [] []))) (record { left = record { how = 2; at = p.at; extent = r }; right = record { how = 2; at = p.at; extent = m - r } })
+          → HalvesAre s k (halves_in k (get_or (splits us) d (halves [] []))) (record { left = record { how = Units; at = p.at; extent = r }; right = record { how = Units; at = p.at; extent = m - r } })
       right k us (u, x) y =
           let l : d < 2 ^ length us = one_units Below h.kind k h.units us (part_one h.here.1 x) h.below in
           let i : d < 2 ^ length (keep m y.all) = one_units Below k y.kind us (keep m y.all) y.is l in
@@ -162,7 +163,7 @@ module _ {s : List ℕ} {p : Part} {k : ℕ} where
       (omega arith, omega arith, omega arith, omega arith)
 
   pub cut_is : {r q : Run} → CutHeld s p k → RunOf s p r → Skipped s r k q
-      → CutOf s p k (record { left = record { how = 3; at = r.from; extent = q.from - r.from }; right = record { how = 3; at = q.from; extent = r.to - q.from } })
+      → CutOf s p k (record { left = record { how = Span; at = r.from; extent = q.from - r.from }; right = record { how = Span; at = q.from; extent = r.to - q.from } })
   cut_is {r} {q} h c d =
       let e = c.ends in
       let m = c.every (sequence_how h.here) in
@@ -172,7 +173,7 @@ module _ {s : List ℕ} {p : Part} {k : ℕ} where
       record { right = right; inside = record { left = omega arith; right = omega arith } }
     where
       right : (vs : List Value) → PartIs s p (collection sequence (items_of vs))
-          → HalvesAre s sequence (get_or (cuts vs) k (halves [] [])) (record { left = record { how = 3; at = r.from; extent = q.from - r.from }; right = record { how = 3; at = q.from; extent = r.to - q.from } })
+          → HalvesAre s sequence (get_or (cuts vs) k (halves [] [])) (record { left = record { how = Span; at = r.from; extent = q.from - r.from }; right = record { how = Span; at = q.from; extent = r.to - q.from } })
       right vs x =
           let o : vs ≡ h.items = one_collection (part_one x h.here) in
           let l : k ≤ length vs = subst (λ (i : List Value). k ≤ length i) (sym o) h.below in

@@ -1,4 +1,5 @@
 -- Laws of parts: one part denotes one value, which is well-formed; and what is written above a part leaves it as it is.
+use Rattle.parts.specs.declared.How.TheVariants.{Nothing, Whole, Units, Span}
 use mathlib.Core.Path.{◌≡◌, refl, sym, ap, subst, ◌∙◌}
 use mathlib.Core.Bool.{Bool, true, false, cond}
 use mathlib.Core.Logic.{inl, inr}
@@ -8,7 +9,10 @@ use native.Mathlib.Nat.{pow-le-pow_right}
 use native.Mathlib.Omega.{arith}
 use lib.ListN.{length, take, drop, length-take}
 use lib.Seq.{take_all, take-take}
-use borrow.Author.Tests.{eq-eqb, ne_eqb}
+use Rattle.std.specs.Bool.{◌==◌}
+use Rattle.std.specs.Ordering.{ordering_index}
+use Rattle.std.specs.declared.cmp.Ordering.{Ordering}
+use Rattle.std.specs.declared.cmp.Ordering.TheVariants.{Less, Equal, Greater}
 use Rattle.integers.specs.Bytes.{word}
 use Rattle.values.specs.Value.{Kind, sequence, number, Value, collection, Items, kind_of, WellFormed}
 use Rattle.values.specs.Place.{At, Holds}
@@ -20,27 +24,53 @@ use Rattle.patterns.specs.Pattern.{list_of, items_of, UnitOf, units_of, items_in
 use Rattle.patterns.proofs.Laws.Collected.{units_items}
 use Rattle.patterns.proofs.Laws.Matched.{items_list, list_items}
 use Rattle.patterns.proofs.Laws.Named.{PartOf, divides, part_fine}
+use Rattle.parts.specs.declared.How.{How}
 use Rattle.parts.specs.declared.Part.{Part}
 use Rattle.parts.specs.Chosen.{odd, keep}
-use Rattle.parts.specs.Part.{Selects, Spans, PartIs, PartHeld, end_of}
+use Rattle.parts.specs.Part.{Selects, Spans, PartIs, PartHeld, size_by, end_of}
 use Rattle.parts.specs.Contract.{KindOfPart, CollectionHeld, whole_at}
+
+-- ---- orders
+
+-- what a test for equality says of an order
+pub is_equal : (o : Ordering) → ordering_index o == 1 ≡ true → o ≡ Equal
+is_equal Less e = cc
+is_equal Equal e = refl
+is_equal Greater e = cc
+
+pub not_equal : (o : Ordering) → ordering_index o == 1 ≡ false → o ≡ Equal → ⊥
+not_equal Less e f = cc
+not_equal Equal e f = cc
+not_equal Greater e f = cc
 
 -- ---- by its how
 
+pub is_nothing : (h : How) → Dec (h ≡ Nothing)
+is_nothing Nothing = yes refl
+is_nothing Whole = no (λ e. cc)
+is_nothing Units = no (λ e. cc)
+is_nothing Span = no (λ e. cc)
+
+pub is_whole : (h : How) → Dec (h ≡ Whole)
+is_whole Nothing = no (λ e. cc)
+is_whole Whole = yes refl
+is_whole Units = no (λ e. cc)
+is_whole Span = no (λ e. cc)
+
 module _ {s : List ℕ} {p : Part} {v : Value} where
-  pub whole_of : p.how ≡ 1 → PartIs s p v → At s p.at v
+  pub whole_of : p.how ≡ Whole → PartIs s p v → At s p.at v
   whole_of e (inl h) = h.1
-  whole_of e (inr (inl h)) = absurd (omega (arith, h.0))
-  whole_of e (inr (inr h)) = absurd (omega (arith, h.0))
+  whole_of e (inr (inl h)) = (cc (h.0))
+  whole_of e (inr (inr h)) = (cc (h.0))
 
-  pub selects_of : p.how ≡ 2 → PartIs s p v → Selects s p.at p.extent v
-  selects_of e (inl h) = absurd (omega (arith, h.0))
+  pub selects_of : p.how ≡ Units → PartIs s p v → Selects s p.at p.extent v
+  selects_of e (inl h) = (cc (h.0))
   selects_of e (inr (inl h)) = h.1
-  selects_of e (inr (inr h)) = absurd (omega (arith, h.0))
+  selects_of e (inr (inr h)) = (cc (h.0))
 
-  pub spans_of : p.how ≡ 3 → PartIs s p v → Spans s p.at (p.at + p.extent) v
-  spans_of e (inl h) = absurd (omega (arith, h.0))
-  spans_of e (inr (inl h)) = absurd (omega (arith, h.0))
+  pub spans_of : p.how ≡ Span → PartIs s p v → Spans s p.at (p.at + p.extent) v
+  spans_of e (inl h) = (cc (h.0))
+  spans_of e (inr (inl h)) = (cc (h.0))
   spans_of e (inr (inr h)) = h.1
 
 -- a mask has at most seven bits
@@ -105,26 +135,32 @@ part_well_formed (inr (inr h)) =
 
 -- ---- where a part ends
 
-pub end_span : (s : List ℕ) (p : Part) → p.how ≡ 3 → end_of s p ≡ p.at + p.extent
-end_span s p e = rw (eq-eqb p.how 3 e)
+pub end_span : (s : List ℕ) (p : Part) → p.how ≡ Span → end_of s p ≡ p.at + p.extent
+end_span s p e = rw e refl
 
-pub end_record : (s : List ℕ) (p : Part) → (p.how ≡ 3 → ⊥) → end_of s p ≡ p.at + word s p.at
-end_record s p f = rw (ne_eqb p.how 3 f)
+pub end_record : (s : List ℕ) (p : Part) → (p.how ≡ Span → ⊥) → end_of s p ≡ p.at + word s p.at
+end_record s p f = go p.how f
+  where
+    go : (h : How) → (h ≡ Span → ⊥) → p.at + size_by h p.extent (word s p.at) ≡ p.at + word s p.at
+    go Nothing g = refl
+    go Whole g = refl
+    go Units g = refl
+    go Span g = absurd (g refl)
 
 -- ---- kept
 
 -- THEOREM: a part below a place denotes the same where what is below that place is as it was, and ends at the same place
 pub part_kept : {s t : List ℕ} {base : ℕ} {p : Part} {v : Value} → take base t ≡ take base s → base ≤ length t → end_of s p ≤ base → PartIs s p v → PartIs t p v × (end_of t p ≡ end_of s p)
 part_kept {s} {t} {base} {p} {v} e l b (inl h) =
-    let n = end_record s p (λ q. omega (arith, h.0)) in
-    let m = end_record t p (λ q. omega (arith, h.0)) in
+    let n = end_record s p (λ q. cc (h.0)) in
+    let m = end_record t p (λ q. cc (h.0)) in
     let w = word_size h.1 in
     let low = size_low v in
     (inl (h.0, kept e l (omega arith) h.1), m ∙ ap (λ (x : ℕ). p.at + x) (word_kept base p.at s t (omega arith) e) ∙ sym n)
 part_kept {s} {t} {base} {p} {v} e l b (inr (inl h)) =
     let x = h.1 in
-    let n = end_record s p (λ q. omega (arith, h.0)) in
-    let m = end_record t p (λ q. omega (arith, h.0)) in
+    let n = end_record s p (λ q. cc (h.0)) in
+    let m = end_record t p (λ q. cc (h.0)) in
     let w = word_size x.here in
     let low = size_low (collection x.kind (items_of (items_in x.kind x.all))) in (
       inr (inl (h.0, record { kind = x.kind; unordered = x.unordered; all = x.all; here = kept e l (omega arith) x.here; few = x.few; below = x.below; is = x.is })),
@@ -139,10 +175,10 @@ part_kept {s} {t} {base} {p} {v} e l b (inr (inr h)) =
 -- A part lies within the slice.
 pub part_inside : {s : List ℕ} {p : Part} {v : Value} → PartIs s p v → end_of s p ≤ length s
 part_inside {s} {p} (inl h) =
-    let e = end_record s p (λ q. omega (arith, h.0)) in
+    let e = end_record s p (λ q. cc (h.0)) in
     omega (arith, word_size h.1, h.1.fits)
 part_inside {s} {p} (inr (inl h)) =
-    let e = end_record s p (λ q. omega (arith, h.0)) in
+    let e = end_record s p (λ q. cc (h.0)) in
     omega (arith, word_size h.1.here, h.1.here.fits)
 part_inside {s} {p} (inr (inr h)) =
     let e = end_span s p h.0 in

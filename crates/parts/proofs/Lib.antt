@@ -2,7 +2,7 @@
 pub mod Choosing
 mod Doubling
 mod Running
-mod Comparing
+pub mod Comparing
 mod Parting
 pub mod Halving
 mod Putting

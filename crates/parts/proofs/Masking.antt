@@ -1,4 +1,5 @@
 -- Masks of one set or map compared by their bits, and words compared.
+use Rattle.parts.specs.declared.How.TheVariants.{Nothing, Units}
 use mathlib.Core.Path.{◌≡◌, refl, sym, ap, ap₂, subst, ◌∙◌}
 use mathlib.Core.Bool.{Bool, true, cond}
 use mathlib.Core.Logic.{inl, inr}
@@ -14,8 +15,8 @@ use lib.ListN.{length}
 use lib.Pow.{shr-shr}
 use borrow.Author.Tests.{eq-eqb, ne_eqb}
 use Rattle.prelude.specs.Membership.{In}
-use Rattle.integers.specs.declared.Order.{Order}
-use Rattle.integers.specs.declared.Order.TheVariants.{Lower, Same, Higher}
+use Rattle.std.specs.declared.cmp.Ordering.{Ordering}
+use Rattle.std.specs.declared.cmp.Ordering.TheVariants.{Less, Equal, Greater}
 use Rattle.values.specs.Value.{Kind, set, sequence, map as mapping, tuple, Value, collection, order, after, within, order_items, Shaped}
 use Rattle.values.specs.Entries.{flat}
 use Rattle.values.specs.Place.{At}
@@ -31,10 +32,10 @@ use Rattle.parts.proofs.Chosen.{keep_zero, keep_none, keep_odd, keep_even}
 use Rattle.parts.specs.Mask.{OrderedMasks}
 use Rattle.parts.specs.Part.{Selects, PartIs, PartHeld, CellIs}
 use Rattle.parts.specs.Contract.{OrderedParts}
-use Rattle.parts.specs.Word.{unpacked, WordHeld, OrderedWords}
-use Rattle.parts.proofs.Laws.{selects_of, part_one, one_units}
+use Rattle.parts.specs.Word.{how_of, unpacked, WordHeld, OrderedWords}
+use Rattle.parts.proofs.Laws.{is_nothing, selects_of, part_one, one_units}
 use Rattle.parts.proofs.Parting.{collections_order}
-use Rattle.parts.proofs.Packing.{cell_value, cell_free, order_left, order_right, order_both}
+use Rattle.parts.proofs.Packing.{how_none, cell_value, cell_free, order_left, order_right, order_both}
 
 -- ---- chosen items in order
 
@@ -42,15 +43,15 @@ pub items_more : (v w : Value) (vs ws : List Value) → order_items (items_of (v
 unfolding within items_of
 items_more v w vs ws = refl
 
-pub none_lower : (w : Value) (ws : List Value) → order_items (items_of []) (items_of (w ∷ ws)) ≡ Lower
+pub none_lower : (w : Value) (ws : List Value) → order_items (items_of []) (items_of (w ∷ ws)) ≡ Less
 unfolding within items_of
 none_lower w ws = refl
 
-pub none_none : order_items (items_of []) (items_of []) ≡ Same
+pub none_none : order_items (items_of []) (items_of []) ≡ Equal
 unfolding within items_of
 none_none = refl
 
-pub some_higher : (v : Value) (vs : List Value) → order_items (items_of (v ∷ vs)) (items_of []) ≡ Higher
+pub some_higher : (v : Value) (vs : List Value) → order_items (items_of (v ∷ vs)) (items_of []) ≡ Greater
 unfolding within items_of
 some_higher v vs = refl
 
@@ -59,7 +60,7 @@ items_same_start : (us vs ws : List Value) → order_items (items_of (us ++ vs))
 items_same_start [] vs ws = refl
 items_same_start (u ∷ us) vs ws =
     items_more u u (us ++ vs) (us ++ ws)
-    ∙ ap (λ (j : Order). after j (order_items (items_of (us ++ vs)) (items_of (us ++ ws)))) (order_refl u)
+    ∙ ap (λ (j : Ordering). after j (order_items (items_of (us ++ vs)) (items_of (us ++ ws)))) (order_refl u)
     ∙ items_same_start us vs ws
 
 -- ---- units and their first items
@@ -104,7 +105,7 @@ keep_some m (u ∷ us) f l = go (ℕ_discrete (m % 2) 1) (λ k. keep_some (m / 2
 
 -- ---- chosen units in order
 
-abbrev pub order_in : (k : Kind) → List (UnitOf k) → List (UnitOf k) → Order
+abbrev pub order_in : (k : Kind) → List (UnitOf k) → List (UnitOf k) → Ordering
 order_in k us ws = order_items (items_of (items_in k us)) (items_of (items_in k ws))
 
 module _ (k : Kind) where
@@ -117,13 +118,13 @@ module _ (k : Kind) where
       ap₂ (λ (l m : List Value). order_items (items_of l) (items_of m)) (items_begin k u us) (items_begin k w ws)
       ∙ items_more (first_of k u) (first_of k w) (others_of k u ++ items_in k us) (others_of k w ++ items_in k ws)
 
-  units_lower : (u w : U) (us ws : List U) → order (first_of k u) (first_of k w) ≡ Lower → order_in k (u ∷ us) (w ∷ ws) ≡ Lower
+  units_lower : (u w : U) (us ws : List U) → order (first_of k u) (first_of k w) ≡ Less → order_in k (u ∷ us) (w ∷ ws) ≡ Less
   units_lower u w us ws e =
-      begun u w us ws ∙ ap (λ (j : Order). after j (order_items (items_of (others_of k u ++ items_in k us)) (items_of (others_of k w ++ items_in k ws)))) e
+      begun u w us ws ∙ ap (λ (j : Ordering). after j (order_items (items_of (others_of k u ++ items_in k us)) (items_of (others_of k w ++ items_in k ws)))) e
 
-  units_higher : (u w : U) (us ws : List U) → order (first_of k u) (first_of k w) ≡ Higher → order_in k (u ∷ us) (w ∷ ws) ≡ Higher
+  units_higher : (u w : U) (us ws : List U) → order (first_of k u) (first_of k w) ≡ Greater → order_in k (u ∷ us) (w ∷ ws) ≡ Greater
   units_higher u w us ws e =
-      begun u w us ws ∙ ap (λ (j : Order). after j (order_items (items_of (others_of k u ++ items_in k us)) (items_of (others_of k w ++ items_in k ws)))) e
+      begun u w us ws ∙ ap (λ (j : Ordering). after j (order_items (items_of (others_of k u ++ items_in k us)) (items_of (others_of k w ++ items_in k ws)))) e
 
   units_more : (u : U) (us ws : List U) → order_in k (u ∷ us) (u ∷ ws) ≡ order_in k us ws
   units_more u us ws =
@@ -131,19 +132,19 @@ module _ (k : Kind) where
       ∙ items_same_start (first_of k u ∷ others_of k u) (items_in k us) (items_in k ws)
 
   -- a unit comes before what a mask chooses of those after it
-  comes_first : (w : U) (us ws : List U) (m : ℕ) → Led (first_of k) (w ∷ ws) → Some m ws → (order_in k (w ∷ us) (keep m ws) ≡ Lower) × (order_in k (keep m ws) (w ∷ us) ≡ Higher)
+  comes_first : (w : U) (us ws : List U) (m : ℕ) → Led (first_of k) (w ∷ ws) → Some m ws → (order_in k (w ∷ us) (keep m ws) ≡ Less) × (order_in k (keep m ws) (w ∷ us) ≡ Greater)
   comes_first w us ws m h r =
       let lower = (led_first (first_of k) w ws h).0 r.first r.there in (
         ap (order_in k (w ∷ us)) r.is ∙ units_lower w r.first us r.others lower,
         ap (λ (l : List U). order_in k l (w ∷ us)) r.is ∙ units_higher r.first w r.others us (lower_flip (first_of k w) (first_of k r.first) lower),
       )
 
-  units_none : (w : U) (ws : List U) → order_in k [] (w ∷ ws) ≡ Lower
+  units_none : (w : U) (ws : List U) → order_in k [] (w ∷ ws) ≡ Less
   units_none w ws =
       ap₂ (λ (l m : List Value). order_items (items_of l) (items_of m)) (items_none k) (items_begin k w ws)
       ∙ none_lower (first_of k w) (others_of k w ++ items_in k ws)
 
-  units_some : (u : U) (us : List U) → order_in k (u ∷ us) [] ≡ Higher
+  units_some : (u : U) (us : List U) → order_in k (u ∷ us) [] ≡ Greater
   units_some u us =
       ap₂ (λ (l m : List Value). order_items (items_of l) (items_of m)) (items_begin k u us) (items_none k)
       ∙ some_higher (first_of k u) (others_of k u ++ items_in k us)
@@ -151,7 +152,7 @@ module _ (k : Kind) where
 -- ---- from the lowest bit on
 
 -- Of some units two masks choose what has this order.
-pub record Left (k : Kind) (x y : ℕ) (o : Order) : Type 0 where
+pub record Left (k : Kind) (x y : ℕ) (o : Ordering) : Type 0 where
   pub units : List (UnitOf k)
   pub left : x < 2 ^ length units
   pub right : y < 2 ^ length units
@@ -169,22 +170,22 @@ left_start a b k u us p q h = record { units = us; left = p; right = q; led = sh
 
 module _ (a b x y : ℕ) (i : MasksLeft a b x y) where
   -- what is left decides
-  decided : (o : Order) → ((k : Kind) (ws : List (UnitOf k)) → x < 2 ^ length ws → y < 2 ^ length ws → Led (first_of k) ws → order_in k (keep x ws) (keep y ws) ≡ o) → OrderedMasks a b o
+  decided : (o : Ordering) → ((k : Kind) (ws : List (UnitOf k)) → x < 2 ^ length ws → y < 2 ^ length ws → Led (first_of k) ws → order_in k (keep x ws) (keep y ws) ≡ o) → OrderedMasks a b o
   decided o f k u us p q h = let r = i k u us p q h in sym (f k r.units r.left r.right r.led) ∙ r.is
 
-  pub masks_same : x ≡ y → OrderedMasks a b Same
+  pub masks_same : x ≡ y → OrderedMasks a b Equal
   masks_same e =
-      decided Same (λ k ws p q h. ap (λ (m : ℕ). order_in k (keep x ws) (keep m ws)) (sym e) ∙ items_refl (items_of (items_in k (keep x ws))))
+      decided Equal (λ k ws p q h. ap (λ (m : ℕ). order_in k (keep x ws) (keep m ws)) (sym e) ∙ items_refl (items_of (items_in k (keep x ws))))
 
-  pub masks_none : x ≡ 0 → (y ≡ 0 → ⊥) → OrderedMasks a b Lower
+  pub masks_none : x ≡ 0 → (y ≡ 0 → ⊥) → OrderedMasks a b Less
   masks_none e f =
-      decided Lower (λ k ws p q h.
+      decided Less (λ k ws p q h.
       let r = keep_some y ws f q in
       ap₂ (order_in k) (ap (λ (m : ℕ). keep m ws) e ∙ keep_zero ws) r.is ∙ units_none k r.first r.others)
 
-  pub masks_some : (x ≡ 0 → ⊥) → y ≡ 0 → OrderedMasks a b Higher
+  pub masks_some : (x ≡ 0 → ⊥) → y ≡ 0 → OrderedMasks a b Greater
   masks_some e f =
-      decided Higher (λ k ws p q h.
+      decided Greater (λ k ws p q h.
       let r = keep_some x ws e p in
       ap₂ (order_in k) r.is (ap (λ (m : ℕ). keep m ws) f ∙ keep_zero ws) ∙ units_some k r.first r.others)
 
@@ -211,21 +212,21 @@ module _ (a b x y : ℕ) (i : MasksLeft a b x y) where
 
   module _ (e : x ≡ 0 → ⊥) (f : y ≡ 0 → ⊥) where
     -- one has the first unit, the other begins after it
-    pub masks_first : (x % 2 ≡ y % 2 → ⊥) → (t : Bool) → t ≡ eqb (x % 2) 1 → (o : Order) → o ≡ cond t Lower Higher → OrderedMasks a b o
+    pub masks_first : (x % 2 ≡ y % 2 → ⊥) → (t : Bool) → t ≡ eqb (x % 2) 1 → (o : Ordering) → o ≡ cond t Less Greater → OrderedMasks a b o
     masks_first d t te o oe = decided o (λ k ws p q h. go k ws p q h (ℕ_discrete (x % 2) 1) ∙ sym oe)
       where
-        go : (k : Kind) (ws : List (UnitOf k)) → x < 2 ^ length ws → y < 2 ^ length ws → Led (first_of k) ws → Dec (x % 2 ≡ 1) → order_in k (keep x ws) (keep y ws) ≡ cond t Lower Higher
+        go : (k : Kind) (ws : List (UnitOf k)) → x < 2 ^ length ws → y < 2 ^ length ws → Led (first_of k) ws → Dec (x % 2 ≡ 1) → order_in k (keep x ws) (keep y ws) ≡ cond t Less Greater
         go k [] p q h z = absurd (e (omega arith))
         go k (w ∷ ws) p q h (yes z) =
             let r = keep_some (y / 2) ws (λ u. f (omega (arith, d))) (omega (arith, pow-suc 2 (length ws))) in
             ap₂ (order_in k) (keep_odd x (x / 2) w ws z refl) (keep_even y (y / 2) w ws (omega (arith, d)) refl)
             ∙ (comes_first k w (keep (x / 2) ws) ws (y / 2) h r).0
-            ∙ sym (ap (λ (u : Bool). cond u Lower Higher) (te ∙ eq-eqb (x % 2) 1 z))
+            ∙ sym (ap (λ (u : Bool). cond u Less Greater) (te ∙ eq-eqb (x % 2) 1 z))
         go k (w ∷ ws) p q h (no z) =
             let r = keep_some (x / 2) ws (λ u. e (omega (arith, z))) (omega (arith, pow-suc 2 (length ws))) in
             ap₂ (order_in k) (keep_even x (x / 2) w ws (omega (arith, z)) refl) (keep_odd y (y / 2) w ws (omega (arith, d, z)) refl)
             ∙ (comes_first k w (keep (y / 2) ws) ws (x / 2) h r).1
-            ∙ sym (ap (λ (u : Bool). cond u Lower Higher) (te ∙ ne_eqb (x % 2) 1 z))
+            ∙ sym (ap (λ (u : Bool). cond u Less Greater) (te ∙ ne_eqb (x % 2) 1 z))
 
 -- ---- the lowest bits that are equal
 
@@ -293,7 +294,7 @@ selects_there : {s : List ℕ} {at mask : ℕ} {w : Value} (k : Kind) (us : List
 selects_there {mask = mask} {w = w} k us h y =
     one_units (λ (l : Kind) (ws : List (UnitOf l)). (mask < 2 ^ length ws) × (w ≡ collection l (items_of (items_in l (keep mask ws))))) y.kind k y.all us (one_value y.here h) (y.below, y.is)
 
-pub masks_order : (s : List ℕ) (p q : Part) → p.how ≡ 2 → q.how ≡ 2 → p.at ≡ q.at → (o : Order) → OrderedMasks p.extent q.extent o → OrderedParts s p q o
+pub masks_order : (s : List ℕ) (p q : Part) → p.how ≡ Units → q.how ≡ Units → p.at ≡ q.at → (o : Ordering) → OrderedMasks p.extent q.extent o → OrderedParts s p q o
 masks_order s p q e f g o h v w i j =
     let x = selects_of {p = p} e i in
     let k = x.kind in
@@ -306,26 +307,26 @@ masks_order s p q e f g o h v w i j =
 module _ (s : List ℕ) where
   cell_one : (p : Part) (c d : Cell) → CellIs s p c → CellIs s p d → c ≡ d
   cell_one p c d (inl h) k = h.1 ∙ sym (cell_free {s = s} {p = p} {c = d} h.0 k)
-  cell_one p c d (inr (v, e, h)) k = go (ℕ_discrete p.how 0)
+  cell_one p c d (inr (v, e, h)) k = go (is_nothing p.how)
     where
-      go : Dec (p.how ≡ 0) → c ≡ d
+      go : Dec (p.how ≡ Nothing) → c ≡ d
       go (yes z) = cell_free {s = s} {p = p} {c = c} z (inr (v, e, h)) ∙ sym (cell_free {s = s} {p = p} {c = d} z k)
       go (no z) = let (w, f, g) = cell_value {s = s} {p = p} {c = d} z k in e ∙ ap is (part_one {p = p} h g) ∙ sym f
 
-  pub words_same : (a b : ℕ) → a ≡ b → OrderedWords s a b Same
+  pub words_same : (a b : ℕ) → a ≡ b → OrderedWords s a b Equal
   words_same a b e x y h k =
       let d : y ≡ x = cell_one (unpacked a) y x (subst (λ (n : ℕ). CellIs s (unpacked n) y) (sym e) k) h in
       sym (ap (order_cells x) d ∙ cell_refl x)
 
-  some_part : (n : ℕ) → WordHeld s n → (n ≡ 0 → ⊥) → (unpacked n).how ≡ 0 → ⊥
-  some_part n h f z = f (h.blank z)
+  some_part : (n : ℕ) → WordHeld s n → (n ≡ 0 → ⊥) → (unpacked n).how ≡ Nothing → ⊥
+  some_part n h f z = f (h.blank (how_none (n % 4) z))
 
   module _ (a b : ℕ) (h : WordHeld s a) (k : WordHeld s b) where
-    pub words_lower : a ≡ 0 → (b ≡ 0 → ⊥) → OrderedWords s a b Lower
-    words_lower e f = order_left s (unpacked a) (unpacked b) (omega arith) (some_part b k f)
+    pub words_lower : a ≡ 0 → (b ≡ 0 → ⊥) → OrderedWords s a b Less
+    words_lower e f = order_left s (unpacked a) (unpacked b) (ap (λ (n : ℕ). how_of (n % 4)) e) (some_part b k f)
 
-    pub words_higher : (a ≡ 0 → ⊥) → b ≡ 0 → OrderedWords s a b Higher
-    words_higher e f = order_right s (unpacked a) (unpacked b) (some_part a h e) (omega arith)
+    pub words_higher : (a ≡ 0 → ⊥) → b ≡ 0 → OrderedWords s a b Greater
+    words_higher e f = order_right s (unpacked a) (unpacked b) (some_part a h e) (ap (λ (n : ℕ). how_of (n % 4)) f)
 
     module _ (e : a ≡ 0 → ⊥) (f : b ≡ 0 → ⊥) (p q : Part) (pe : p ≡ unpacked a) (qe : q ≡ unpacked b) where
       pub words_held : PartHeld s p × PartHeld s q
@@ -334,5 +335,5 @@ module _ (s : List ℕ) where
           let y = cell_value {s = s} {p = unpacked b} {c = k.cell} (some_part b k f) k.is in
           (record { value = x.0; here = subst (λ (z : Part). PartIs s z x.0) (sym pe) x.2 }, record { value = y.0; here = subst (λ (z : Part). PartIs s z y.0) (sym qe) y.2 })
 
-      pub words_order : (o : Order) → OrderedParts s p q o → OrderedWords s a b o
+      pub words_order : (o : Ordering) → OrderedParts s p q o → OrderedWords s a b o
       words_order o c = order_both s (unpacked a) (unpacked b) (some_part a h e) (some_part b k f) o (subst (λ (z : Part). OrderedParts s z (unpacked b) o) pe (subst (λ (z : Part). OrderedParts s p z o) qe c))

@@ -1,12 +1,13 @@
 -- The order of what two masks choose of items that stand from two places on, said of lists, places and numbers alone.
+use Rattle.parts.specs.declared.How.TheVariants.{Units}
 use mathlib.Core.Path.{◌≡◌, refl, sym, ap, ap₂, subst, ◌∙◌}
 use mathlib.Core.List.{List, [], ◌∷◌}
 use Prim.Native.Nat.{ℕ, ◌+◌, ◌*◌, ◌/◌, ◌%◌, ◌^◌, ◌<◌}
 use native.Mathlib.Nat.{pow-suc}
 use native.Mathlib.Omega.{arith}
 use lib.ListN.{length}
-use Rattle.integers.specs.declared.Order.{Order}
-use Rattle.integers.specs.declared.Order.TheVariants.{Lower, Same, Higher}
+use Rattle.std.specs.declared.cmp.Ordering.{Ordering}
+use Rattle.std.specs.declared.cmp.Ordering.TheVariants.{Less, Equal, Greater}
 use Rattle.integers.specs.Bytes.{word}
 use Rattle.values.specs.Value.{number, Value, collection, size, order, after, order_items}
 use Rattle.values.specs.Place.{At, Holds}
@@ -24,6 +25,7 @@ use Rattle.parts.specs.Contract.{OrderedParts}
 use Rattle.parts.proofs.Laws.{selects_of}
 use Rattle.parts.proofs.Parting.{items_chosen, collections_order}
 use Rattle.parts.proofs.Running.{Stand, Lead, lead_cons}
+use Rattle.parts.proofs.Comparing.{after_own}
 use Rattle.parts.proofs.Masking.{items_more, none_none, none_lower, some_higher, keep_some}
 
 -- ---- what a mask chooses
@@ -77,11 +79,6 @@ module _ {s : List ℕ} {at m : ℕ} {vs : List Value} (h : ChoiceIs s at m vs) 
 pub choice_first : {s : List ℕ} {at m : ℕ} → ChoiceHeld s at m → (m ≡ 0 → ⊥) → Holds s at
 choice_first h f = holds (choice_lead h.here f).first-at
 
-after_own : (o p : Order) → (o ≡ Same → ⊥) → after o p ≡ o
-after_own Lower p f = refl
-after_own Same p f = absurd (f refl)
-after_own Higher p f = refl
-
 -- ---- from item to item
 
 -- The order of what m and n choose from i and j on is that of what x and y choose from a and b on.
@@ -99,19 +96,19 @@ module _ {s : List ℕ} {a x b y i m j n : ℕ} (l : ChoicesLeft s a x b y i m j
       let (us, ts, p, q, e) = l h.items k.items h.here k.here in
       (record { items = us; here = p }, record { items = ts; here = q })
 
-  pub choices_same : m ≡ 0 → n ≡ 0 → OrderedChoices s a x b y Same
+  pub choices_same : m ≡ 0 → n ≡ 0 → OrderedChoices s a x b y Equal
   choices_same f g vs ws h k =
       let (us, ts, p, q, e) = l vs ws h k in
       sym (sym e ∙ ap₂ (λ (c d : List Value). order_items (items_of c) (items_of d)) (choice_none p f) (choice_none q g) ∙ none_none)
 
-  pub choices_lower : m ≡ 0 → (n ≡ 0 → ⊥) → OrderedChoices s a x b y Lower
+  pub choices_lower : m ≡ 0 → (n ≡ 0 → ⊥) → OrderedChoices s a x b y Less
   choices_lower f g vs ws h k =
       let (us, ts, p, q, e) = l vs ws h k in
       let (v, others, d) = choice_some q g in
       sym (sym e ∙ ap₂ (λ (c d : List Value). order_items (items_of c) (items_of d)) (choice_none p f) d ∙ none_lower v others)
 
   module _ (f : m ≡ 0 → ⊥) where
-    pub choices_higher : n ≡ 0 → OrderedChoices s a x b y Higher
+    pub choices_higher : n ≡ 0 → OrderedChoices s a x b y Greater
     choices_higher g vs ws h k =
         let (us, ts, p, q, e) = l vs ws h k in
         let (v, others, d) = choice_some p f in
@@ -128,22 +125,22 @@ module _ {s : List ℕ} {a x b y i m j n : ℕ} (l : ChoicesLeft s a x b y i m j
           let (us, ts, p, q, e) = l vs ws h z in
           (us, ts, p, subst (λ (y : ℕ). ChoiceIs s (j + y) (n / 2) ts) (sym d) (choice_skip q g o), e)
 
-      module _ (om : m % 2 ≡ 1) (on : n % 2 ≡ 1) (o : Order) (c : Ordered s i j o) where
+      module _ (om : m % 2 ≡ 1) (on : n % 2 ≡ 1) (o : Ordering) (c : Ordered s i j o) where
         -- the order of the items that stand there, and then that of the others
         heads : {us ts : List Value} (p : Taken s i m us) (q : Taken s j n ts) → order_items (items_of us) (items_of ts) ≡ after o (order_items (items_of p.others) (items_of q.others))
         heads p q =
             ap₂ (λ (c d : List Value). order_items (items_of c) (items_of d)) p.is q.is
             ∙ items_more p.first q.first p.others q.others
-            ∙ ap (λ (z : Order). after z (order_items (items_of p.others) (items_of q.others))) (sym (c p.first q.first p.first-at q.first-at))
+            ∙ ap (λ (z : Ordering). after z (order_items (items_of p.others) (items_of q.others))) (sym (c p.first q.first p.first-at q.first-at))
 
-        pub choices_settled : (o ≡ Same → ⊥) → OrderedChoices s a x b y o
+        pub choices_settled : (o ≡ Equal → ⊥) → OrderedChoices s a x b y o
         choices_settled z vs ws h k =
             let (us, ts, p, q, e) = l vs ws h k in
             let u = choice_take p f om in
             let t = choice_take q g on in
             sym (sym e ∙ heads u t ∙ after_own o (order_items (items_of u.others) (items_of t.others)) z)
 
-        pub choices_more : o ≡ Same → (k : ℕ) → k ≡ word s i → ChoicesLeft s a x b y (i + k) (m / 2) (j + k) (n / 2)
+        pub choices_more : o ≡ Equal → (k : ℕ) → k ≡ word s i → ChoicesLeft s a x b y (i + k) (m / 2) (j + k) (n / 2)
         choices_more z k d vs ws h r =
             let (us, ts, p, q, e) = l vs ws h r in
             let u = choice_take p f om in
@@ -154,11 +151,11 @@ module _ {s : List ℕ} {a x b y i m j n : ℕ} (l : ChoicesLeft s a x b y i m j
               t.others,
               subst (λ (y : ℕ). ChoiceIs s (i + y) (m / 2) u.others) (sym d) u.rest,
               subst (λ (y : ℕ). ChoiceIs s (j + y) (n / 2) t.others) (sym w) t.rest,
-              sym (heads u t ∙ ap (λ (y : Order). after y (order_items (items_of u.others) (items_of t.others))) z) ∙ e,
+              sym (heads u t ∙ ap (λ (y : Ordering). after y (order_items (items_of u.others) (items_of t.others))) z) ∙ e,
             )
 
         -- equal items are of one size
-        pub same_size : o ≡ Same → ChoiceHeld s i m → ChoiceHeld s j n → word s j ≡ word s i
+        pub same_size : o ≡ Equal → ChoiceHeld s i m → ChoiceHeld s j n → word s j ≡ word s i
         same_size z h k =
             let u = choice_take h.here f om in
             let t = choice_take k.here g on in
@@ -167,7 +164,7 @@ module _ {s : List ℕ} {a x b y i m j n : ℕ} (l : ChoicesLeft s a x b y i m j
 
 -- ---- two parts that choose units
 
-module _ {s : List ℕ} {p : Part} {kind m : ℕ} (e : p.how ≡ 2) (d : KindAt s p.at kind) (i : ItemMask kind p.extent m) where
+module _ {s : List ℕ} {p : Part} {kind m : ℕ} (e : p.how ≡ Units) (d : KindAt s p.at kind) (i : ItemMask kind p.extent m) where
   part_choice : {v : Value} (h : PartIs s p v) → ChoiceIs s (p.at + 4) m (items_in (selects_of e h).kind (keep p.extent (selects_of e h).all))
   part_choice h =
       let x = selects_of e h in
@@ -177,8 +174,8 @@ module _ {s : List ℕ} {p : Part} {kind m : ℕ} (e : p.how ≡ 2) (d : KindAt 
   pub units_held : PartHeld s p → ChoiceHeld s (p.at + 4) m
   units_held h = let x = selects_of e h.here in record { items = items_in x.kind (keep p.extent x.all); here = part_choice h.here }
 
-pub units_order : {s : List ℕ} {p q : Part} {kind m n : ℕ} → p.how ≡ 2 → q.how ≡ 2 → KindAt s p.at kind → KindAt s q.at kind → ItemMask kind p.extent m → ItemMask kind q.extent n
-    → (o : Order) → OrderedChoices s (p.at + 4) m (q.at + 4) n o → OrderedParts s p q o
+pub units_order : {s : List ℕ} {p q : Part} {kind m n : ℕ} → p.how ≡ Units → q.how ≡ Units → KindAt s p.at kind → KindAt s q.at kind → ItemMask kind p.extent m → ItemMask kind q.extent n
+    → (o : Ordering) → OrderedChoices s (p.at + 4) m (q.at + 4) n o → OrderedParts s p q o
 units_order {p = p} {q = q} e f kp kq mp mq o c v w h k =
     let x = selects_of e h in
     let y = selects_of f k in

@@ -1,19 +1,21 @@
 -- The functions on parts, said of lists, places and numbers alone.
+use Rattle.parts.specs.declared.How.TheVariants.{Whole, Units, Span}
 use mathlib.Core.Path.{◌≡◌, refl, sym, ap, ap₂, subst, ◌∙◌}
 use mathlib.Core.Bool.{true, false}
 use mathlib.Core.Logic.{inl, inr, ⊎_elim}
 use mathlib.Core.List.{List, ◌∷◌}
 use Prim.Native.Nat.{ℕ, suc, ◌+◌, ◌*◌, ◌≤◌, ◌<◌}
 use native.Mathlib.Nat.{mul_comm}
-use native.Mathlib.Decide.{ℕ_discrete}
 use native.Mathlib.Omega.{arith}
 use lib.Count.{ones}
 use lib.ListN.{length, get_or, drop}
 use lib.Seq.{drop-cons}
+use Rattle.std.specs.Ordering.{MatchOrdering, nat_cmp}
+use Rattle.std.proofs.lemmas.Cmp.{ranked}
 use Rattle.prelude.specs.Membership.{In}
 use Rattle.prelude.proofs.Absurd.{true_false}
-use Rattle.integers.specs.declared.Order.{Order}
-use Rattle.integers.specs.declared.Order.TheVariants.{Lower, Same, Higher}
+use Rattle.std.specs.declared.cmp.Ordering.{Ordering}
+use Rattle.std.specs.declared.cmp.Ordering.TheVariants.{Less, Equal, Greater}
 use Rattle.values.specs.Value.{Kind, sequence, number, Value, boolean, collection, kind_of, after, order, order_items, within}
 use Rattle.values.specs.Place.{At, ItemsAt, Holds}
 use Rattle.values.specs.Contract.{Length, KindAt, Ordered}
@@ -30,7 +32,7 @@ use Rattle.parts.specs.Chosen.{every_one, keep}
 use Rattle.parts.proofs.Chosen.{kept_length, chosen_all, chosen_keep}
 use Rattle.parts.specs.Mask.{WidthOf, ChoosesItems, ItemMask}
 use Rattle.parts.specs.Part.{PartIs, PartHeld, end_of}
-use Rattle.parts.proofs.Laws.{of_kind, whole_of, selects_of, selects_low, spans_of, part_one, one_collection, end_span, end_record, whole_here}
+use Rattle.parts.proofs.Laws.{is_whole, of_kind, whole_of, selects_of, selects_low, spans_of, part_one, one_collection, end_span, end_record, whole_here}
 use Rattle.parts.specs.Run.{RunIs, RunHeld, Startable, ReadyRun, RestOf, RunOf, CountOf, SkipHeld, Skipped, OrderedRuns}
 use Rattle.parts.specs.Contract.{KindOfPart, CollectionHeld, CountOfPart, OrderedParts, ItemHeld, ItemOfPart, whole_at, HasItem}
 use Rattle.parts.proofs.Running.{ready_odd, run_head, run_end, more_less}
@@ -42,30 +44,30 @@ every_run vs h = record { all = vs; here = h; small = omega arith; stands = read
 
 module _ {s : List ℕ} {p : Part} where
   -- a part that is no span has a record at its place
-  pub record_of : {v : Value} → (p.how ≡ 3 → ⊥) → PartIs s p v → Holds s p.at
+  pub record_of : {v : Value} → (p.how ≡ Span → ⊥) → PartIs s p v → Holds s p.at
   record_of f (inl h) = holds h.1
   record_of f (inr (inl h)) = holds h.1.here
   record_of f (inr (inr h)) = absurd (f h.0)
 
-  whole_left : {v : Value} → (p.how ≡ 2 → ⊥) → (p.how ≡ 3 → ⊥) → PartIs s p v → At s p.at v
+  whole_left : {v : Value} → (p.how ≡ Units → ⊥) → (p.how ≡ Span → ⊥) → PartIs s p v → At s p.at v
   whole_left f g (inl h) = h.1
   whole_left f g (inr (inl h)) = absurd (f h.0)
   whole_left f g (inr (inr h)) = absurd (g h.0)
 
   -- ---- `kind_of_part`
 
-  pub kind_spans : p.how ≡ 3 → KindOfPart s p 4
+  pub kind_spans : p.how ≡ Span → KindOfPart s p 4
   kind_spans e v h = sym (ap kind_of (spans_of e h).is)
 
   -- some units of a set or map are of its kind
-  pub kind_record : {k : ℕ} → (p.how ≡ 3 → ⊥) → KindAt s p.at k → KindOfPart s p k
+  pub kind_record : {k : ℕ} → (p.how ≡ Span → ⊥) → KindAt s p.at k → KindOfPart s p k
   kind_record f c v (inl h) = c.right v h.1
   kind_record f c v (inr (inl h)) = let x = h.1 in c.right (collection x.kind (items_of (items_in x.kind x.all))) x.here ∙ sym (ap kind_of x.is)
   kind_record f c v (inr (inr h)) = absurd (f h.0)
 
   -- ---- `run_of`
 
-  pub run_spans : {v : Value} → p.how ≡ 3 → PartIs s p v → RunOf s p (record { from = p.at; to = p.at + p.extent; mask = every_one })
+  pub run_spans : {v : Value} → p.how ≡ Span → PartIs s p v → RunOf s p (record { from = p.at; to = p.at + p.extent; mask = every_one })
   run_spans e g = record {
     short = let x = spans_of e g in let i = x.here.ends in let n = x.short in omega arith;
     ends = omega (arith, end_span s p e);
@@ -73,7 +75,7 @@ module _ {s : List ℕ} {p : Part} where
     right = λ k vs h. let x = spans_of e h in every_run vs (subst (λ (l : List Value). ItemsAt s p.at (p.at + p.extent) (items_of l)) (sym (one_collection x.is)) x.here);
   }
 
-  pub run_whole : {n : ℕ} → (p.how ≡ 2 → ⊥) → (p.how ≡ 3 → ⊥) → Length s p.at n → RunOf s p (record { from = p.at + 4; to = p.at + n; mask = every_one })
+  pub run_whole : {n : ℕ} → (p.how ≡ Units → ⊥) → (p.how ≡ Span → ⊥) → Length s p.at n → RunOf s p (record { from = p.at + 4; to = p.at + n; mask = every_one })
   run_whole f g c = record {
     short = let h = c.high in omega arith;
     ends = let e = c.is in omega (arith, end_record s p g);
@@ -81,11 +83,11 @@ module _ {s : List ℕ} {p : Part} where
     right = λ k vs h. every_run vs (items_to c.is (whole_left f g h));
   }
 
-  pub units_low : {v : Value} → p.how ≡ 2 → PartIs s p v → p.extent < 128
+  pub units_low : {v : Value} → p.how ≡ Units → PartIs s p v → p.extent < 128
   units_low e h = selects_low (selects_of e h)
 
   -- the items of the units that are chosen
-  module _ {kind m : ℕ} (e : p.how ≡ 2) (d : KindAt s p.at kind) (i : ItemMask kind p.extent m) where
+  module _ {kind m : ℕ} (e : p.how ≡ Units) (d : KindAt s p.at kind) (i : ItemMask kind p.extent m) where
     pub items_chosen : {v : Value} (h : PartIs s p v) → ChoosesItems (selects_of e h).kind p.extent m (selects_of e h).all
     items_chosen h =
         let x = selects_of e h in
@@ -99,7 +101,7 @@ module _ {s : List ℕ} {p : Part} where
 
     pub run_selects : {n : ℕ} {r : Run} → Length s p.at n → ReadyRun s (record { from = p.at + 4; to = p.at + n; mask = m }) r → RunOf s p r
     run_selects {n} {r} c q = record {
-      ends = let d = c.is in let t = q.to in omega (arith, end_record s p (λ z. omega (arith, z)));
+      ends = let d = c.is in let t = q.to in omega (arith, end_record s p (λ z. cc));
       short = let h = c.high in let t = q.to in let o = q.from in omega arith;
       every = λ f. absurd (f e);
       right = right;
@@ -116,7 +118,7 @@ module _ {s : List ℕ} {p : Part} where
   -- ---- `count_of_part`
 
   -- of units as many as bits are set, and each unit's items
-  pub units_counted : {kind w : ℕ} → p.how ≡ 2 → KindAt s p.at kind → WidthOf kind w → CountOfPart s p (ones p.extent * w)
+  pub units_counted : {kind w : ℕ} → p.how ≡ Units → KindAt s p.at kind → WidthOf kind w → CountOfPart s p (ones p.extent * w)
   units_counted {kind} {w} e d c k vs h =
       let x = selects_of e h in
       let n : w ≡ width x.kind = c x.kind (d.right (collection x.kind (items_of (items_in x.kind x.all))) x.here) in
@@ -133,29 +135,38 @@ module _ {s : List ℕ} {p : Part} where
 -- ---- `order_parts`
 
 module _ {s : List ℕ} {p q : Part} {k l : ℕ} (cp : KindOfPart s p k) (cq : KindOfPart s q l) where
-  pub kinds_lower : k < l → OrderedParts s p q Lower
+  kinds_lower : k < l → OrderedParts s p q Less
   kinds_lower h v w x y =
       let e = cp v x in
       let f = cq w y in
-      let z : order_ℕ (kind_of v) (kind_of w) ≡ Lower = lt_lower (kind_of v) (kind_of w) (omega arith) in
-      sym (ap (λ (o : Order). after o (within v w)) z)
+      let z : order_ℕ (kind_of v) (kind_of w) ≡ Less = lt_lower (kind_of v) (kind_of w) (omega arith) in
+      sym (ap (λ (o : Ordering). after o (within v w)) z)
 
-  pub kinds_higher : l < k → OrderedParts s p q Higher
+  kinds_higher : l < k → OrderedParts s p q Greater
   kinds_higher h v w x y =
       let e = cp v x in
       let f = cq w y in
-      let z : order_ℕ (kind_of v) (kind_of w) ≡ Higher = gt_higher (kind_of v) (kind_of w) (omega arith) in
-      sym (ap (λ (o : Order). after o (within v w)) z)
+      let z : order_ℕ (kind_of v) (kind_of w) ≡ Greater = gt_higher (kind_of v) (kind_of w) (omega arith) in
+      sym (ap (λ (o : Ordering). after o (within v w)) z)
+
+  -- two kinds that differ decide
+  pub kinds_apart : (o : Ordering) → (k ≡ l → ⊥) → o ≡ nat_cmp k l → OrderedParts s p q o
+  kinds_apart o f e = go o (ranked k l o e)
+    where
+      go : (j : Ordering) → MatchOrdering j (k < l) (k ≡ l) (l < k) → OrderedParts s p q j
+      go Less h = kinds_lower h
+      go Equal h = absurd (f h)
+      go Greater h = kinds_higher h
 
 -- two whole records
-pub whole_held : {s : List ℕ} {p : Part} → p.how ≡ 1 → PartHeld s p → Holds s p.at
+pub whole_held : {s : List ℕ} {p : Part} → p.how ≡ Whole → PartHeld s p → Holds s p.at
 whole_held e h = holds (whole_of e h.here)
 
-pub whole_order : {s : List ℕ} {p q : Part} {o : Order} → p.how ≡ 1 → q.how ≡ 1 → Ordered s p.at q.at o → OrderedParts s p q o
+pub whole_order : {s : List ℕ} {p q : Part} {o : Ordering} → p.how ≡ Whole → q.how ≡ Whole → Ordered s p.at q.at o → OrderedParts s p q o
 whole_order e f c v w x y = c v w (whole_of e x) (whole_of f y)
 
 -- a part that is no whole record is a collection
-apart_kind : {s : List ℕ} {p : Part} {k : ℕ} → KindOfPart s p k → (p.how ≡ 1 → ⊥) → PartHeld s p → (i : Kind) × (k ≡ number i)
+apart_kind : {s : List ℕ} {p : Part} {k : ℕ} → KindOfPart s p k → (p.how ≡ Whole → ⊥) → PartHeld s p → (i : Kind) × (k ≡ number i)
 apart_kind {s} {p} {k} c f h = go h.value h.here (c h.value h.here)
   where
     go : (v : Value) → PartIs s p v → k ≡ kind_of v → (i : Kind) × (k ≡ number i)
@@ -164,10 +175,10 @@ apart_kind {s} {p} {k} c f h = go h.value h.here (c h.value h.here)
     go v (inr (inr x)) e = (sequence, e ∙ ap kind_of x.1.is)
 
 -- two parts of one kind that are not both whole records are collections
-pub kinds_collection : {s : List ℕ} {p q : Part} {k l : ℕ} → KindOfPart s p k → KindOfPart s q l → PartHeld s p → PartHeld s q → (p.how ≡ 1 → q.how ≡ 1 → ⊥) → k ≡ l → (i : Kind) × (k ≡ number i)
-kinds_collection {p = p} {q = q} {k = k} cp cq hp hq f e = go (ℕ_discrete p.how 1)
+pub kinds_collection : {s : List ℕ} {p q : Part} {k l : ℕ} → KindOfPart s p k → KindOfPart s q l → PartHeld s p → PartHeld s q → (p.how ≡ Whole → q.how ≡ Whole → ⊥) → k ≡ l → (i : Kind) × (k ≡ number i)
+kinds_collection {p = p} {q = q} {k = k} cp cq hp hq f e = go (is_whole p.how)
   where
-    go : Dec (p.how ≡ 1) → (i : Kind) × (k ≡ number i)
+    go : Dec (p.how ≡ Whole) → (i : Kind) × (k ≡ number i)
     go (yes z) = let (i, n) = apart_kind cq (f z) hq in (i, e ∙ n)
     go (no z) = apart_kind cp z hp
 
@@ -176,7 +187,7 @@ pub collections_order : (k l : Kind) (vs ws : List Value) → number k ≡ numbe
 unfolding within
 collections_order k l vs ws e = rw (eq-same (number k) (number l) e)
 
-pub runs_order : {s : List ℕ} {p q : Part} {k l : ℕ} {a b : Run} {o : Order} → KindOfPart s p k → KindOfPart s q l → (i : Kind) × (k ≡ number i) → k ≡ l → RunOf s p a → RunOf s q b → OrderedRuns s a b o → OrderedParts s p q o
+pub runs_order : {s : List ℕ} {p q : Part} {k l : ℕ} {a b : Run} {o : Ordering} → KindOfPart s p k → KindOfPart s q l → (i : Kind) × (k ≡ number i) → k ≡ l → RunOf s p a → RunOf s q b → OrderedRuns s a b o → OrderedParts s p q o
 runs_order {s} {p} {q} cp cq (i, h) e ra rb c v w x y =
     let (vs, d) = of_kind i v (sym (cp v x) ∙ h) in
     let (ws, f) = of_kind i w (sym (cq w y) ∙ sym e ∙ h) in
@@ -243,18 +254,18 @@ module _ {s : List ℕ} {q : Part} {r₀ r : Run} (i : Unfound s q r₀ r) where
   pub unfound_end : {p : Part} → RunOf s p r₀ → r.to ≤ r.from → HasItem s p q false
   unfound_end c e k vs v x y = let (ws, g, to, from) = i vs v (c.right k vs x) y in ((λ z. true_false (sym z)), λ z m. subst (In v) (run_end ws e g) (from m))
 
-  module _ (lt : r.from < r.to) {item : Part} (w : item ≡ whole_at r.from) (o : Order) (d : OrderedParts s item q o) where
+  module _ (lt : r.from < r.to) {item : Part} (w : item ≡ whole_at r.from) (o : Ordering) (d : OrderedParts s item q o) where
     first_order : (ws : List Value) (g : RunIs s r ws) (v : Value) → PartIs s q v → o ≡ order (run_head ws lt g).first v
     first_order ws g v y = let h = run_head ws lt g in d h.first v (subst (λ (z : Part). PartIs s z h.first) (sym w) (inl (refl, h.first-at))) y
 
-    pub unfound_found : {p : Part} → RunOf s p r₀ → o ≡ Same → HasItem s p q true
+    pub unfound_found : {p : Part} → RunOf s p r₀ → o ≡ Equal → HasItem s p q true
     unfound_found c e k vs v x y =
         let (ws, g, to, from) = i vs v (c.right k vs x) y in
         let h = run_head ws lt g in
         let n : v ≡ h.first = sym (same_equal h.first v (sym (first_order ws g v y) ∙ e)) in
         ((λ z. to (subst (In v) (sym h.is) (inl n))), λ z. true_false z)
 
-    pub unfound_more : {t : Run} → (o ≡ Same → ⊥) → RestOf s r t → Unfound s q r₀ t
+    pub unfound_more : {t : Run} → (o ≡ Equal → ⊥) → RestOf s r t → Unfound s q r₀ t
     unfound_more f b vs v x y =
         let (ws, g, to, from) = i vs v x y in
         let h = run_head ws lt g in (

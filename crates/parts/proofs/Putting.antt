@@ -1,4 +1,5 @@
 -- Writing what a run or a part denotes, said of lists, places and numbers alone.
+use Rattle.parts.specs.declared.How.TheVariants.{Whole}
 use mathlib.Core.Path.{◌≡◌, refl, sym, ap, subst, ◌∙◌}
 use mathlib.Core.Bool.{Bool, true, false, cond}
 use mathlib.Core.Logic.{inl, inr}
@@ -157,17 +158,17 @@ module _ {s₀ s : List ℕ} {to : ℕ} {r₀ r : Run} {out : ℕ} (w : Writing 
 
 module _ {s : List ℕ} {p : Part} {base : ℕ} (h : Puttable s p base) where
   -- a whole record is copied
-  pub whole_copyable : p.how ≡ 1 → Copyable s p.at base
+  pub whole_copyable : p.how ≡ Whole → Copyable s p.at base
   whole_copyable e =
       let a = whole_of e h.here in
       let b = h.below in
       let r = h.room in
       let x = holds a in
       let n = x.high in
-      let d = end_record s p (λ z. omega arith) in
+      let d = end_record s p (λ z. cc) in
       record { held = x; room = omega arith; apart = inl (omega arith) }
 
-  pub whole_put : {t : List ℕ} {r : ℕ} → p.how ≡ 1 → Copied s t p.at base r → PutPart s t p base r
+  pub whole_put : {t : List ℕ} {r : ℕ} → p.how ≡ Whole → Copied s t p.at base r → PutPart s t p base r
   whole_put e c =
       let x = holds (whole_of e h.here) in
       let n = x.high in
@@ -183,7 +184,7 @@ module _ {s : List ℕ} {p : Part} {base : ℕ} (h : Puttable s p base) where
   puttable_held = record { value = h.value; here = h.here }
 
   -- any other part is a collection
-  pub puttable_collection : (p.how ≡ 1 → ⊥) → CollectionHeld s p
+  pub puttable_collection : (p.how ≡ Whole → ⊥) → CollectionHeld s p
   puttable_collection f = go h.here
     where
       go : PartIs s p h.value → CollectionHeld s p
@@ -191,7 +192,7 @@ module _ {s : List ℕ} {p : Part} {base : ℕ} (h : Puttable s p base) where
       go (inr (inl x)) = record { kind = x.1.kind; items = items_in x.1.kind (keep p.extent x.1.all); here = subst (PartIs s p) x.1.is h.here }
       go (inr (inr x)) = record { kind = sequence; items = x.1.items; here = subst (PartIs s p) x.1.is h.here }
 
-  pub puttable_run : {r : Run} → (p.how ≡ 1 → ⊥) → RunOf s p r → PutHeld s r (base + 4)
+  pub puttable_run : {r : Run} → (p.how ≡ Whole → ⊥) → RunOf s p r → PutHeld s r (base + 4)
   puttable_run f c =
       let x = puttable_collection f in
       let y = c.right x.kind x.items x.here in
@@ -203,7 +204,7 @@ module _ {s : List ℕ} {p : Part} {base : ℕ} (h : Puttable s p base) where
       record { items = x.items; here = y; below = omega arith; room = omega arith }
 
   -- there is room for the heading, and its numbers are small
-  pub heading_fits : {t : List ℕ} {r : Run} {e k : ℕ} → (p.how ≡ 1 → ⊥) → KindOfPart s p k → RunOf s p r → PutRun s t r (base + 4) e
+  pub heading_fits : {t : List ℕ} {r : Run} {e k : ℕ} → (p.how ≡ Whole → ⊥) → KindOfPart s p k → RunOf s p r → PutRun s t r (base + 4) e
       → (base ≤ e) × (base + 4 ≤ length t) × (e - base < 65536) × (k < 65536)
   heading_fits f kinds c w =
       let x = puttable_collection f in
@@ -218,7 +219,7 @@ module _ {s : List ℕ} {p : Part} {base : ℕ} (h : Puttable s p base) where
       (omega arith, omega arith, omega arith, omega (arith, number_high x.kind))
 
   -- the heading is written before the items
-  pub headed_put : {t u : List ℕ} {r : Run} {e k : ℕ} → (p.how ≡ 1 → ⊥) → KindOfPart s p k → RunOf s p r → PutRun s t r (base + 4) e → PutHead t u base (e - base) k → PutPart s u p base e
+  pub headed_put : {t u : List ℕ} {r : Run} {e k : ℕ} → (p.how ≡ Whole → ⊥) → KindOfPart s p k → RunOf s p r → PutRun s t r (base + 4) e → PutHead t u base (e - base) k → PutPart s u p base e
   headed_put {t} {u} {r} {e} {k} f kinds c w g =
       let n = c.short in
       let m = w.few in

@@ -1,6 +1,6 @@
 -- What masks choose of items whose records stand from a place on, and what the functions on them ask and promise.
 use Rattle.std.specs.Prelude.{◌≡◌, List, ℕ, ◌^◌, ◌<◌, length}
-use Rattle.integers.specs.declared.Order.{Order}
+use Rattle.std.specs.declared.cmp.Ordering.{Ordering}
 use Rattle.values.specs.Value.{Value, order_items}
 use Rattle.values.specs.Place.{ItemsAt}
 use Rattle.patterns.specs.Pattern.{items_of}
@@ -20,5 +20,5 @@ pub record ChoiceHeld (s : List ℕ) (at mask : ℕ) : Type 0 where
   pub here : ChoiceIs s at mask items
 
 -- o is the order of what two masks choose
-abbrev pub OrderedChoices : List ℕ → ℕ → ℕ → ℕ → ℕ → Order → Type 0
+abbrev pub OrderedChoices : List ℕ → ℕ → ℕ → ℕ → ℕ → Ordering → Type 0
 OrderedChoices s a x b y o = (vs ws : List Value) → ChoiceIs s a x vs → ChoiceIs s b y ws → o ≡ order_items (items_of vs) (items_of ws)

@@ -1,7 +1,8 @@
 -- What the functions on parts ask and promise. Each promise is for whatever value the part denotes: by `part_one` there is one.
+use Rattle.parts.specs.declared.How.TheVariants.{Whole, Units}
 use Rattle.std.specs.Prelude.{◌≡◌, Bool, true, false, List, [], ℕ, ◌+◌, ◌-◌, ◌^◌, ◌≤◌, ◌<◌, length, get_or}
 use Rattle.prelude.specs.Membership.{In}
-use Rattle.integers.specs.declared.Order.{Order}
+use Rattle.std.specs.declared.cmp.Ordering.{Ordering}
 use Rattle.values.specs.Value.{Kind, sequence, Value, collection, kind_of, size, order, value_limit}
 use Rattle.values.specs.Place.{At, Outside}
 use Rattle.patterns.specs.Ways.{Halves as Split, halves, splits, cuts}
@@ -29,7 +30,7 @@ abbrev pub CountOfPart : List ℕ → Part → ℕ → Type 0
 CountOfPart s p r = (k : Kind) (vs : List Value) → PartIs s p (collection k (items_of vs)) → r ≡ length vs
 
 -- o is the order of the two values
-abbrev pub OrderedParts : List ℕ → Part → Part → Order → Type 0
+abbrev pub OrderedParts : List ℕ → Part → Part → Ordering → Type 0
 OrderedParts s p q o = (v w : Value) → PartIs s p v → PartIs s q w → o ≡ order v w
 
 -- A part denotes a collection of more than k items, in a slice whose places fit.
@@ -42,7 +43,7 @@ pub record ItemHeld (s : List ℕ) (p : Part) (k : ℕ) : Type 0 where
 
 -- r denotes the k-th of them, a whole record
 pub record ItemOfPart (s : List ℕ) (p : Part) (k : ℕ) (r : Part) : Type 0 where
-  pub whole : r.how ≡ 1
+  pub whole : r.how ≡ Whole
   pub right : (kind : Kind) (vs : List Value) (d : Value) → PartIs s p (collection kind (items_of vs)) → At s r.at (get_or vs k d)
   pub ends : end_of s r ≤ end_of s p
 
@@ -57,7 +58,7 @@ ItemOfRun s r k q = (p : Part) → ItemHeld s p k → RunOf s p r → ItemOfPart
 
 -- The whole record at a place.
 abbrev pub whole_at : ℕ → Part
-whole_at at = record { at = at; extent = 0; how = 1 }
+whole_at at = record { at = at; extent = 0; how = Whole }
 
 -- r says whether an item of the collection that p denotes has the value of q
 abbrev pub HasItem : List ℕ → Part → Part → Bool → Type 0
@@ -106,7 +107,7 @@ pub record SplitOf (s : List ℕ) (p : Part) (d : ℕ) (r : Halves) : Type 0 whe
 
 -- The halves of a part whose units m chooses, of which l chooses those on the left.
 abbrev pub halves_by : Part → ℕ → ℕ → Halves
-halves_by p m l = record { left = record { at = p.at; extent = l; how = 2 }; right = record { at = p.at; extent = m - l; how = 2 } }
+halves_by p m l = record { left = record { at = p.at; extent = l; how = Units }; right = record { at = p.at; extent = m - l; how = Units } }
 
 -- A part denotes a sequence, in a slice whose places fit, and k is the number of one of its cuts.
 pub record CutHeld (s : List ℕ) (p : Part) (k : ℕ) : Type 0 where

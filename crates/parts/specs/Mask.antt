@@ -1,6 +1,6 @@
 -- What the functions on masks promise.
 use Rattle.std.specs.Prelude.{◌≡◌, true, List, ℕ, zero, suc, ◌+◌, ◌*◌, ◌-◌, ◌/◌, ◌%◌, ◌^◌, ◌≤◌, ◌<◌, length, drop}
-use Rattle.integers.specs.declared.Order.{Order}
+use Rattle.std.specs.declared.cmp.Ordering.{Ordering}
 use Rattle.values.specs.Value.{Kind, number, Shaped, order_items}
 use Rattle.patterns.specs.Pattern.{items_of, UnitOf, items_in, is_unordered}
 use Rattle.parts.specs.declared.masks.Dealing.{Dealing}
@@ -33,7 +33,7 @@ pub record Spread (m d r : ℕ) : Type 0 where
   pub right : (k : Kind) (us : List (UnitOf k)) → m < 2 ^ length us → d < 2 ^ length (keep m us) → keep (m - r) us ≡ (split_at (keep m us) d).right
 
 -- o is the order of the sets or maps that two masks choose of one
-abbrev pub OrderedMasks : ℕ → ℕ → Order → Type 0
+abbrev pub OrderedMasks : ℕ → ℕ → Ordering → Type 0
 OrderedMasks a b o =
     (k : Kind) → is_unordered k ≡ true → (us : List (UnitOf k)) → a < 2 ^ length us → b < 2 ^ length us → Shaped k (items_of (items_in k us))
     → o ≡ order_items (items_of (items_in k (keep a us))) (items_of (items_in k (keep b us)))

@@ -1,10 +1,12 @@
 -- What a part denotes: a value, of which the bytes lie in a slice.
-use Rattle.std.specs.Prelude.{◌≡◌, ◌⊎◌, List, ℕ, ◌+◌, ◌^◌, ◌≤◌, ◌<◌, eqb, length, true, cond}
+use Rattle.parts.specs.declared.How.TheVariants.{Nothing, Whole, Units, Span}
+use Rattle.std.specs.Prelude.{◌≡◌, ◌⊎◌, List, ℕ, ◌+◌, ◌^◌, ◌≤◌, ◌<◌, length, true}
 use Rattle.integers.specs.Bytes.{word}
 use Rattle.values.specs.Value.{Kind, sequence, Value, collection, sizes, value_limit}
 use Rattle.values.specs.Place.{At, ItemsAt}
 use Rattle.patterns.specs.Binding.{Cell, free, is}
 use Rattle.patterns.specs.Pattern.{items_of, UnitOf, items_in, is_unordered, most_split}
+use Rattle.parts.specs.declared.How.{How}
 use Rattle.parts.specs.declared.Part.{Part}
 use Rattle.parts.specs.Chosen.{keep}
 
@@ -27,17 +29,24 @@ pub record Spans (s : List ℕ) (from to : ℕ) (v : Value) : Type 0 where
 
 -- A part denotes v.
 abbrev pub PartIs : List ℕ → Part → Value → Type 0
-PartIs s p v = ((p.how ≡ 1) × At s p.at v) ⊎ (((p.how ≡ 2) × Selects s p.at p.extent v) ⊎ ((p.how ≡ 3) × Spans s p.at (p.at + p.extent) v))
+PartIs s p v = ((p.how ≡ Whole) × At s p.at v) ⊎ (((p.how ≡ Units) × Selects s p.at p.extent v) ⊎ ((p.how ≡ Span) × Spans s p.at (p.at + p.extent) v))
 
 -- A part that denotes some value.
 pub record PartHeld (s : List ℕ) (p : Part) : Type 0 where
   pub value : Value
   pub here : PartIs s p value
 
+-- How many bytes it takes: those of a span are told, any other part has the size of its record.
+abbrev pub size_by : How → ℕ → ℕ → ℕ
+size_by Nothing e w = w
+size_by Whole e w = w
+size_by Units e w = w
+size_by Span e w = e
+
 -- Where the bytes of a part end.
 abbrev pub end_of : List ℕ → Part → ℕ
-end_of s p = p.at + cond (eqb p.how 3) p.extent (word s p.at)
+end_of s p = p.at + size_by p.how p.extent (word s p.at)
 
 -- A part stands for what is said of a name: nothing, or a value.
 abbrev pub CellIs : List ℕ → Part → Cell → Type 0
-CellIs s p c = ((p.how ≡ 0) × (c ≡ free)) ⊎ ((v : Value) × (c ≡ is v) × PartIs s p v)
+CellIs s p c = ((p.how ≡ Nothing) × (c ≡ free)) ⊎ ((v : Value) × (c ≡ is v) × PartIs s p v)

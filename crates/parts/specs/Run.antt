@@ -1,6 +1,7 @@
 -- What a run denotes, and what the functions on runs ask and promise.
+use Rattle.parts.specs.declared.How.TheVariants.{Units}
 use Rattle.std.specs.Prelude.{◌≡◌, List, [], ◌∷◌, ℕ, ◌+◌, ◌-◌, ◌%◌, ◌≤◌, ◌<◌, length, drop}
-use Rattle.integers.specs.declared.Order.{Order}
+use Rattle.std.specs.declared.cmp.Ordering.{Ordering}
 use Rattle.integers.specs.Bytes.{word}
 use Rattle.values.specs.Value.{Kind, Value, collection, order_items, value_limit}
 use Rattle.values.specs.Place.{ItemsAt, Outside}
@@ -60,7 +61,7 @@ pub record RestOf (s : List ℕ) (r q : Run) : Type 0 where
 pub record RunOf (s : List ℕ) (p : Part) (r : Run) : Type 0 where
   pub ends : r.to ≤ end_of s p
   pub short : r.to + 4 ≤ r.from + value_limit
-  pub every : (p.how ≡ 2 → ⊥) → r.mask ≡ every_one
+  pub every : (p.how ≡ Units → ⊥) → r.mask ≡ every_one
   pub right : (k : Kind) (vs : List Value) → PartIs s p (collection k (items_of vs)) → RunIs s r vs
 
 -- n is the number of items
@@ -81,7 +82,7 @@ pub record Skipped (s : List ℕ) (r : Run) (k : ℕ) (q : Run) : Type 0 where
   pub right : (vs : List Value) → RunIs s r vs → RunIs s q (drop k vs)
 
 -- o is the order of the items of two runs
-abbrev pub OrderedRuns : List ℕ → Run → Run → Order → Type 0
+abbrev pub OrderedRuns : List ℕ → Run → Run → Ordering → Type 0
 OrderedRuns s a b o = (vs ws : List Value) → RunIs s a vs → RunIs s b ws → o ≡ order_items (items_of vs) (items_of ws)
 
 -- The items lie below a place, with room there.

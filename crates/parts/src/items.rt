@@ -1,10 +1,10 @@
 // Items of collections, chosen by masks, where they lie.
 ghost use Rattle.parts.specs.Choice.{ChoiceHeld, OrderedChoices};
 
-use integers::Order;
+use std::cmp::Ordering;
 
 // The order of what x chooses of the items from a on, and y of those from b on: item by item, a prefix before what extends it.
-pub fn order(s: &[u8], a: usize, x: usize, b: usize, y: usize) -> Order
+pub fn order(s: &[u8], a: usize, x: usize, b: usize, y: usize) -> Ordering
     requires { ChoiceHeld s.now a x × ChoiceHeld s.now b y }
     ensures { OrderedChoices s.now a x b y result }
 {
@@ -14,7 +14,7 @@ pub fn order(s: &[u8], a: usize, x: usize, b: usize, y: usize) -> Order
     let mut n = y;
     while m != 0 {
         if n == 0 {
-            return Order::Higher;
+            return Ordering::Greater;
         }
         if m % 2 == 0 {
             i += values::length_of(s, i);
@@ -27,7 +27,7 @@ pub fn order(s: &[u8], a: usize, x: usize, b: usize, y: usize) -> Order
             continue;
         }
         let o = values::compare(s, i, j);
-        let Order::Same = o else {
+        let Ordering::Equal = o else {
             return o;
         };
         let k = values::length_of(s, i);
@@ -37,7 +37,7 @@ pub fn order(s: &[u8], a: usize, x: usize, b: usize, y: usize) -> Order
         n /= 2;
     }
     if n == 0 {
-        return Order::Same;
+        return Ordering::Equal;
     }
-    Order::Lower
+    Ordering::Less
 }

@@ -7,31 +7,42 @@ pub mod runs;
 pub mod words;
 
 ghost use Rattle.std.specs.Prelude.{◌≡◌, ◌≤◌, ◌<◌, length};
+ghost use Rattle.parts.specs.declared.How.TheVariants.{Whole, Units};
 ghost use Rattle.parts.specs.Part.{PartHeld};
+ghost use Rattle.parts.specs.Word.{code_of};
 ghost use Rattle.parts.specs.Contract.{KindOfPart, CollectionHeld, Countable, OrderedParts, CountOfPart, RunItemHeld, ItemOfRun, whole_at, HasItem, SplitHeld, CutHeld, SplitOf, halves_by, CutOf, Puttable, PutPart, MaskOf};
 
-use integers::Order;
 use runs::Run;
+use std::cmp::Ordering;
 use values::Value;
 
-// Nothing; the whole record at a place; of the set of at most seven members or the map of at most seven entries whose record stands at a place, those
-// units that the bits of `extent` choose, the first by the lowest bit; the sequence of the items whose records take `extent` bytes from a place on.
-// Eight bytes in all.
+// How a part denotes a value, in a word its number: nothing; the whole record at a place; of the set of at most seven members or the map of at most
+// seven entries whose record stands there, those units that the bits of the extent choose, the first by the lowest bit; the sequence of the items
+// whose records take so many bytes from there on.
+#[derive(Clone, Copy, Debug, PartialEq, Eq)]
+pub enum How {
+    Nothing = 0,
+    Whole = 1,
+    Units = 2,
+    Span = 3,
+}
+
+impl How {
+    // The number of a sort.
+    fn code(self) -> u32
+        ensures { result ≡ code_of self }
+    {
+        self as u32
+    }
+}
+
+// A part of a value where it lies: a place, how the value is found there, and for units or a span their extent. Eight bytes in all.
+// One struct: a word packs the same three fields, and the place is read alike of records and units.
 #[derive(Clone, Copy)]
 pub struct Part {
     pub at: u32,
     pub extent: u16,
-    pub how: u8,
-}
-
-impl Part {
-    pub const NOTHING: u8 = 0;
-
-    pub const WHOLE: u8 = 1;
-
-    pub const UNITS: u8 = 2;
-
-    pub const SPAN: u8 = 3;
+    pub how: How,
 }
 
 // The two halves of a part.
@@ -46,11 +57,10 @@ pub fn kind_of_part(s: &[u8], p: Part) -> usize
     requires { PartHeld s.now p }
     ensures { KindOfPart s.now p result }
 {
-    if p.how == Part::SPAN {
-        return Value::SEQUENCE;
+    match p.how {
+        How::Span => Value::SEQUENCE,
+        _ => values::kind_of(s, p.at as usize),
     }
-    let at = p.at as usize;
-    values::kind_of(s, at)
 }
 
 // How many items the collection has that a part denotes: of units as many as bits are set, and each unit's items.
@@ -58,20 +68,19 @@ pub fn count_of_part(s: &[u8], p: Part) -> usize
     requires { CollectionHeld s.now p }
     ensures { CountOfPart s.now p result }
 {
-    if p.how == Part::UNITS {
+    if let How::Units = p.how {
         let at = p.at as usize;
         let kind = values::kind_of(s, at);
         let mask = p.extent as usize;
-        let units = usize::count_ones(mask) as usize;
-        return units * masks::width(kind);
+        return mask.count_ones() as usize * masks::width(kind);
     }
     let r = runs::run_of(s, p);
     runs::count(s, r)
 }
 
 // The order of the sets or maps that two parts choose units of: those of one by their bits, others by kind and then item by item.
-fn order_units(s: &[u8], p: Part, q: Part) -> Order
-    requires { PartHeld s.now p × PartHeld s.now q × (p.how ≡ 2) × (q.how ≡ 2) }
+fn order_units(s: &[u8], p: Part, q: Part) -> Ordering
+    requires { PartHeld s.now p × PartHeld s.now q × (p.how ≡ Units) × (q.how ≡ Units) }
     ensures { OrderedParts s.now p q result }
 {
     let a = p.at as usize;
@@ -83,11 +92,8 @@ fn order_units(s: &[u8], p: Part, q: Part) -> Order
     }
     let kind = values::kind_of(s, a);
     let other = values::kind_of(s, b);
-    if kind < other {
-        return Order::Lower;
-    }
-    if other < kind {
-        return Order::Higher;
+    if kind != other {
+        return kind.cmp(&other);
     }
     // Most are sets: what chooses members chooses items.
     if kind == Value::SET {
@@ -99,37 +105,27 @@ fn order_units(s: &[u8], p: Part, q: Part) -> Order
 }
 
 // The order of the values that two parts denote, where they lie. It serves the order of bindings and the test of repeated names alike.
-pub fn order_parts(s: &[u8], p: Part, q: Part) -> Order
+pub fn order_parts(s: &[u8], p: Part, q: Part) -> Ordering
     requires { PartHeld s.now p × PartHeld s.now q }
     ensures { OrderedParts s.now p q result }
 {
-    if p.how != q.how {
-        return order_kinds(s, p, q);
+    match (p.how, q.how) {
+        (How::Whole, How::Whole) => values::compare(s, p.at as usize, q.at as usize),
+        (How::Units, How::Units) => order_units(s, p, q),
+        _ => order_kinds(s, p, q),
     }
-    if p.how == Part::UNITS {
-        return order_units(s, p, q);
-    }
-    if p.how == Part::WHOLE {
-        let a = p.at as usize;
-        let b = q.at as usize;
-        return values::compare(s, a, b);
-    }
-    order_kinds(s, p, q)
 }
 
 // The order of the values that two parts denote which are not both whole records: by kind, and then item by item.
-fn order_kinds(s: &[u8], p: Part, q: Part) -> Order
+fn order_kinds(s: &[u8], p: Part, q: Part) -> Ordering
     requires part_held { PartHeld s.now p × PartHeld s.now q }
-    requires not_both_whole { p.how ≡ 1 → q.how ≡ 1 → ⊥ }
+    requires not_both_whole { p.how ≡ Whole → q.how ≡ Whole → ⊥ }
     ensures { OrderedParts s.now p q result }
 {
     let kp = kind_of_part(s, p);
     let kq = kind_of_part(s, q);
-    if kp < kq {
-        return Order::Lower;
-    }
-    if kq < kp {
-        return Order::Higher;
+    if kp != kq {
+        return kp.cmp(&kq);
     }
     let a = runs::run_of(s, p);
     let b = runs::run_of(s, q);
@@ -144,7 +140,7 @@ pub fn whole_at(at: usize) -> Part
     Part {
         at: at as u32,
         extent: 0,
-        how: Part::WHOLE,
+        how: How::Whole,
     }
 }
 
@@ -165,8 +161,7 @@ pub fn has_item(s: &[u8], p: Part, q: Part) -> bool
     let mut r = runs::run_of(s, p);
     while r.from < r.to {
         let item = whole_at(r.from);
-        let o = order_parts(s, item, q);
-        if let Order::Same = o {
+        if order_parts(s, item, q) == Ordering::Equal {
             return true;
         }
         r = runs::rest(s, r);
@@ -189,7 +184,7 @@ pub fn mask_of(s: &[u8], p: Part) -> usize
     requires { Countable s.now p }
     ensures { MaskOf s.now p result }
 {
-    if p.how == Part::UNITS {
+    if let How::Units = p.how {
         return p.extent as usize;
     }
     let kind = kind_of_part(s, p);
@@ -208,12 +203,12 @@ pub fn halves_by(p: Part, mask: usize, left: usize) -> Halves
         left: Part {
             at,
             extent: left as u16,
-            how: Part::UNITS,
+            how: How::Units,
         },
         right: Part {
             at,
             extent: right as u16,
-            how: Part::UNITS,
+            how: How::Units,
         },
     }
 }
@@ -232,12 +227,12 @@ pub fn cut_part(s: &[u8], p: Part, k: usize) -> Halves
         left: Part {
             at: from as u32,
             extent: (middle - from) as u16,
-            how: Part::SPAN,
+            how: How::Span,
         },
         right: Part {
             at: middle as u32,
             extent: (to - middle) as u16,
-            how: Part::SPAN,
+            how: How::Span,
         },
     }
 }
@@ -247,13 +242,13 @@ pub fn put_part(s: &mut [u8], p: Part, base: usize) -> usize
     requires { Puttable s.old p base }
     ensures { PutPart s.old s.new p base result }
 {
-    if p.how == Part::WHOLE {
+    if let How::Whole = p.how {
         let at = p.at as usize;
         return values::copy_value(s, at, base);
     }
     let kind = kind_of_part(s, p);
     let r = runs::run_of(s, p);
-    let end = runs::put(s, r, base + 4);
+    let end = runs::put(s, r, base + Value::HEAD);
     values::put_head(s, base, end - base, kind);
     end
 }

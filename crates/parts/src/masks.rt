@@ -1,10 +1,9 @@
 // Bits that choose units of a set or map that can be split: its members or its entries.
-ghost use Rattle.std.specs.Prelude.{◌≡◌, ◌/◌, ◌≤◌, ◌<◌, cond};
-ghost use Rattle.integers.specs.declared.Order.TheVariants.{Lower, Higher};
+ghost use Rattle.std.specs.Prelude.{◌≡◌, ◌/◌, ◌≤◌, ◌<◌};
 ghost use Rattle.patterns.specs.Pattern.{most_split};
 ghost use Rattle.parts.specs.Mask.{Full, Deals, Spread, OrderedMasks, WidthOf, doubled, ItemMask};
 
-use integers::Order;
+use std::cmp::Ordering;
 use values::Value;
 
 // A set or map of more units is too large to split.
@@ -18,8 +17,7 @@ pub fn full(k: usize) -> usize
     requires { k ≤ most_split }
     ensures { Full k result }
 {
-    let masks = FULL;
-    masks[k]
+    FULL[k]
 }
 
 // Units dealt out, the last ones first: the mask of those on the left, and what is left of the number of the split.
@@ -56,51 +54,34 @@ pub fn spread(m: usize, d: usize) -> usize
     requires { m < 128 }
     ensures { Spread m d result }
 {
-    let m1 = m / 2;
-    let m2 = m1 / 2;
-    let m3 = m2 / 2;
-    let m4 = m3 / 2;
-    let m5 = m4 / 2;
-    let m6 = m5 / 2;
-    let none = Dealing { left: 0, rest: d };
-    let last = deal(m6, none);
-    let from5 = deal(m5, last);
-    let from4 = deal(m4, from5);
-    let from3 = deal(m3, from4);
-    let from2 = deal(m2, from3);
-    let from1 = deal(m1, from2);
-    let all = deal(m, from1);
-    all.left
+    let mut dealt = Dealing { left: 0, rest: d };
+    for i in (0..MOST_UNITS).rev() {
+        dealt = deal(m >> i, dealt);
+    }
+    dealt.left
 }
 
 // The order of the sets or maps that two masks choose of one: the lowest bit that differs decides, unless one of them ends before it.
-pub fn order(a: usize, b: usize) -> Order
+pub fn order(a: usize, b: usize) -> Ordering
     ensures { OrderedMasks a b result }
 {
     if a == b {
-        return Order::Same;
+        return Ordering::Equal;
     }
-    let equal = usize::trailing_zeros(a ^ b);
+    let equal = (a ^ b).trailing_zeros();
     let x = a >> equal;
     let y = b >> equal;
     if x == 0 {
-        return Order::Lower;
+        return Ordering::Less;
     }
     if y == 0 {
-        return Order::Higher;
+        return Ordering::Greater;
     }
-    let left = x % 2 == 1;
-    first(left)
-}
-
-// The one that has the lowest bit comes first.
-fn first(left: bool) -> Order
-    ensures { result ≡ cond left Lower Higher }
-{
-    if left {
-        return Order::Lower;
+    if x % 2 == 1 {
+        Ordering::Less
+    } else {
+        Ordering::Greater
     }
-    Order::Higher
 }
 
 // How many items a unit of a value of the kind has: an entry has a key and a value.

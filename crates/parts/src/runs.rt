@@ -2,8 +2,9 @@
 ghost use Rattle.parts.specs.Run.{Startable, ReadyRun, RunHeld, MoreHeld, RestOf, RunOf, OrderedRuns, CountOf, SkipHeld, Skipped, PutHeld, PutRun};
 ghost use Rattle.parts.specs.Contract.{CollectionHeld};
 
-use crate::{Part, masks};
-use integers::Order;
+use crate::{How, Part, masks};
+use std::cmp::Ordering;
+use values::Value;
 
 #[derive(Clone, Copy)]
 pub struct Run {
@@ -13,7 +14,7 @@ pub struct Run {
 }
 
 impl Run {
-    // The mask that chooses every item, however many there are. Others have at most fourteen bits.
+    // The mask that chooses every item, however many there are. Others have at most fourteen bits. It is no None, as `ready` reads all masks alike.
     pub const ALL: usize = 65535;
 }
 
@@ -66,7 +67,7 @@ pub fn run_of(s: &[u8], p: Part) -> Run
 {
     let at = p.at as usize;
     let extent = p.extent as usize;
-    if p.how == Part::SPAN {
+    if let How::Span = p.how {
         return Run {
             from: at,
             to: at + extent,
@@ -74,20 +75,20 @@ pub fn run_of(s: &[u8], p: Part) -> Run
         };
     }
     let end = at + values::length_of(s, at);
-    if p.how == Part::UNITS {
+    if let How::Units = p.how {
         let kind = values::kind_of(s, at);
         let mask = masks::item_mask(kind, extent);
         return ready(
             s,
             Run {
-                from: at + 4,
+                from: at + Value::HEAD,
                 to: end,
                 mask,
             },
         );
     }
     Run {
-        from: at + 4,
+        from: at + Value::HEAD,
         to: end,
         mask: Run::ALL,
     }
@@ -113,40 +114,33 @@ pub fn skip(s: &[u8], r: Run, k: usize) -> Run
     ensures { Skipped s.now r k result }
 {
     let mut r = r;
-    let mut i = 0;
-    while i < k {
+    for _i in 0..k {
         r = rest(s, r);
-        i += 1;
     }
     r
 }
 
 // The order of two runs: item by item, a prefix before what extends it.
-pub fn order(s: &[u8], a: Run, b: Run) -> Order
+pub fn order(s: &[u8], a: Run, b: Run) -> Ordering
     requires { RunHeld s.now a × RunHeld s.now b }
     ensures { OrderedRuns s.now a b result }
 {
     if a.from == a.to {
         if b.from == b.to {
-            return Order::Same;
+            return Ordering::Equal;
         }
-        return Order::Lower;
+        return Ordering::Less;
     }
     if b.from == b.to {
-        return Order::Higher;
+        return Ordering::Greater;
     }
-    let i = a.from;
-    let j = b.from;
-    let first = values::compare(s, i, j);
-    match first {
-        Order::Lower => Order::Lower,
-        Order::Higher => Order::Higher,
-        Order::Same => {
-            let x = rest(s, a);
-            let y = rest(s, b);
-            order(s, x, y)
-        }
-    }
+    let first = values::compare(s, a.from, b.from);
+    let Ordering::Equal = first else {
+        return first;
+    };
+    let x = rest(s, a);
+    let y = rest(s, b);
+    order(s, x, y)
 }
 
 // Copies the items of a run to a place, one after the other, and gives the place past them.

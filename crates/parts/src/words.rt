@@ -1,9 +1,9 @@
 // Parts as words of 32 bits, and what each name stands for.
-ghost use Rattle.std.specs.Prelude.{◌≡◌, ℕ, ◌%◌, ◌≤◌, length};
-ghost use Rattle.parts.specs.Word.{unpacked, CellHeld, WordOf, WordHeld, OrderedWords};
+ghost use Rattle.std.specs.Prelude.{◌≡◌, ℕ, ◌%◌, ◌≤◌, ◌<◌, length};
+ghost use Rattle.parts.specs.Word.{how_of, unpacked, CellHeld, WordOf, WordHeld, OrderedWords};
 
-use crate::Part;
-use integers::Order;
+use crate::{How, Part};
+use std::cmp::Ordering;
 
 // What each name stands for, as words; 0 where it has no value.
 #[derive(Clone, Copy)]
@@ -24,16 +24,24 @@ pub fn word_of(s: &[u8], p: Part) -> u32
     requires { (length s.now ≤ 65536) × CellHeld s.now p }
     ensures { WordOf s.now p result }
 {
-    if p.how == Part::NOTHING {
-        return 0;
+    match p.how {
+        How::Nothing => 0,
+        How::Whole => 1 + 4 * p.at,
+        _ => p.how.code() + 4 * (p.at + PLACES * p.extent as u32),
     }
-    let at = p.at;
-    if p.how == Part::WHOLE {
-        return 1 + 4 * at;
+}
+
+// How the part of a word denotes a value, by its lowest two bits.
+fn how_of(code: u32) -> How
+    requires { code < 4 }
+    ensures { result ≡ how_of code }
+{
+    match code {
+        0 => How::Nothing,
+        1 => How::Whole,
+        2 => How::Units,
+        _ => How::Span,
     }
-    let how = p.how as u32;
-    let extent = p.extent as u32;
-    how + 4 * (at + PLACES * extent)
 }
 
 // The part that a word stands for.
@@ -44,23 +52,23 @@ pub fn unpack(word: u32) -> Part
     Part {
         at: q % PLACES,
         extent: (q / PLACES) as u16,
-        how: (word % 4) as u8,
+        how: how_of(word % 4),
     }
 }
 
 // The order of what two words say of a name, where the values lie.
-pub fn order_words(s: &[u8], a: u32, b: u32) -> Order
+pub fn order_words(s: &[u8], a: u32, b: u32) -> Ordering
     requires { WordHeld s.now a × WordHeld s.now b }
     ensures { OrderedWords s.now a b result }
 {
     if a == b {
-        return Order::Same;
+        return Ordering::Equal;
     }
     if a == 0 {
-        return Order::Lower;
+        return Ordering::Less;
     }
     if b == 0 {
-        return Order::Higher;
+        return Ordering::Greater;
     }
     let p = unpack(a);
     let q = unpack(b);
@@ -68,7 +76,7 @@ pub fn order_words(s: &[u8], a: u32, b: u32) -> Order
 }
 
 // The order of what two words say of a name that both choose units of sets or maps.
-pub fn order_chosen(s: &[u8], a: u32, b: u32) -> Order
+pub fn order_chosen(s: &[u8], a: u32, b: u32) -> Ordering
     requires { WordHeld s.now a × WordHeld s.now b × (a % 4 ≡ 2) × (b % 4 ≡ 2) }
     ensures { OrderedWords s.now a b result }
 {

@@ -1,7 +1,7 @@
 -- Bindings: a value for each name that a pattern holds; what two bindings say together; and their order.
 use Rattle.std.specs.Prelude.{Bool, true, false, cond, List, [], ◌∷◌, ◌++◌, ℕ, get_or, replicate, set}
-use Rattle.integers.specs.declared.Order.{Order}
-use Rattle.integers.specs.declared.Order.TheVariants.{Lower, Same, Higher}
+use Rattle.std.specs.declared.cmp.Ordering.{Ordering}
+use Rattle.std.specs.declared.cmp.Ordering.TheVariants.{Less, Equal, Greater}
 use Rattle.values.specs.Value.{Value, order, after}
 use Rattle.values.specs.Items.{same, in_order}
 
@@ -64,22 +64,22 @@ together (b ∷ bs) cs = with_each b cs ++ together bs cs
 -- ---- the order of bindings
 
 -- By value; bindings of one pattern have values for the same names, so what stands for the other cells is of no account.
-abbrev pub order_cells : Cell → Cell → Order
-order_cells free free = Same
-order_cells free (is w) = Lower
-order_cells free clash = Lower
-order_cells (is v) free = Higher
+abbrev pub order_cells : Cell → Cell → Ordering
+order_cells free free = Equal
+order_cells free (is w) = Less
+order_cells free clash = Less
+order_cells (is v) free = Greater
 order_cells (is v) (is w) = order v w
-order_cells (is v) clash = Lower
-order_cells clash free = Higher
-order_cells clash (is w) = Higher
-order_cells clash clash = Same
+order_cells (is v) clash = Less
+order_cells clash free = Greater
+order_cells clash (is w) = Greater
+order_cells clash clash = Equal
 
 -- By their values taken in rising name number.
-unfoldable pub order_bindings : Binding → Binding → Order
-order_bindings [] [] = Same
-order_bindings [] (c ∷ cs) = Lower
-order_bindings (b ∷ bs) [] = Higher
+unfoldable pub order_bindings : Binding → Binding → Ordering
+order_bindings [] [] = Equal
+order_bindings [] (c ∷ cs) = Less
+order_bindings (b ∷ bs) [] = Greater
 order_bindings (b ∷ bs) (c ∷ cs) = after (order_cells b c) (order_bindings bs cs)
 
 -- A binding put in order among others, once.

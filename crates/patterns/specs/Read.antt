@@ -9,9 +9,9 @@ use Rattle.tables.specs.Accepted.{records, Fine}
 use Rattle.tables.specs.Reading.{Here}
 
 -- A pattern record of an accepted table with an index of its records.
-pub record Readable (table index : List ℕ) (p : ℕ) : Type 0 where
+pub record Readable (table : List ℕ) (p : ℕ) : Type 0 where
   pub fine : Fine (records table)
-  pub here : Here table index p
+  pub here : Here table p
   pub pattern : is_pattern (kind_at (records table) p) ≡ true
 
 unfoldable pub patterns_of : List Pattern → Patterns

@@ -23,8 +23,9 @@ use Rattle.patterns.specs.Pattern.{Pattern, any, wide, wide_each}
 use Rattle.patterns.specs.Read.{patterns_of, pattern_of, pattern_at, Readable}
 use Rattle.patterns.specs.Nodes.{is_halved, meetings, is_large}
 use Rattle.patterns.proofs.Laws.Nodes.{pattern_at_lem}
-use Rattle.matching.specs.declared.nodes.Meeting.{Meeting}
-use Rattle.matching.specs.declared.nodes.Meeting.TheVariants.{Unfit, Large, Ways}
+use Rattle.std.specs.Prelude.{Result, Ok, Err}
+use Rattle.matching.specs.declared.nodes.Misfit.{Misfit}
+use Rattle.matching.specs.declared.nodes.Misfit.TheVariants.{Unfit, TooLarge}
 use Rattle.matching.specs.Node.{is_split, MeetsAs, Meets, PieceHeld, PieceOf, inner_of, ways_of, met_by}
 use Rattle.prelude.proofs.Lists.{map_at}
 use Rattle.matching.proofs.Counting.{split_kind}
@@ -61,9 +62,9 @@ split_next table p i q n e h t y = each_next (λ q. has_split (pattern_at (recor
 pub split_told : {k c : ℕ} {b t : Bool} → k ≡ c → b ≡ is_split k → b ≡ t → is_split c ≡ t
 split_told e f g = ap is_split (sym e) ∙ sym f ∙ g
 
-module _ (table index : List ℕ) (p : ℕ) (r : Readable table index p) where
+module _ (table : List ℕ) (p : ℕ) (r : Readable table p) where
   by_record : pattern_at (records table) p ≡ pattern_of (record_at (records table) p) (inner_of table p)
-  by_record = pattern_at_lem (records table) (lower (records table) r.fine.clear6) p r.here.within
+  by_record = pattern_at_lem (records table) (lower (records table) r.fine.clear6) p r.here
 
   inner_length : length (inner_of table p) ≡ length (named (record_at (records table) p))
   inner_length = length-map (named (record_at (records table) p)) (pattern_at (records table))
@@ -78,7 +79,7 @@ module _ (table index : List ℕ) (p : ℕ) (r : Readable table index p) where
   inner_end i l = drop_of_length-le (inner_of table p) {i = i} (omega (arith, inner_length))
 
   two : is_composed (kind_at (records table) p) ≡ true → is_halved (kind_at (records table) p) ≡ true → length (inner_of table p) ≡ 2
-  two c e = inner_length ∙ count_two table index p r c e
+  two c e = inner_length ∙ count_two table p r c e
 
   -- ---- has_split
 
@@ -98,11 +99,11 @@ module _ (table index : List ℕ) (p : ℕ) (r : Readable table index p) where
 
       pub split_none : (i : ℕ) → NoSplitTo table p i → length (named (record_at (records table) p)) ≤ i → TellsSplit table p false
       unfolding has_split
-      split_none i h l = sym (no_part has_split some_split refl (λ q qs. refl) table index p r split_parts i h l)
+      split_none i h l = sym (no_part has_split some_split refl (λ q qs. refl) table p r split_parts i h l)
 
       pub split_found : (i q : ℕ) → i < length (named (record_at (records table) p)) → q ≡ operand (record_at (records table) p) i → (h : Bool) → TellsSplit table q h → h ≡ true → TellsSplit table p true
       unfolding has_split
-      split_found i q l e h t y = sym (some_part has_split some_split refl (λ q qs. refl) table index p r split_parts i q l e (sym t ∙ y))
+      split_found i q l e h t y = sym (some_part has_split some_split refl (λ q qs. refl) table p r split_parts i q l e (sym t ∙ y))
 
   -- ---- is_shallow
 
@@ -112,7 +113,7 @@ module _ (table index : List ℕ) (p : ℕ) (r : Readable table index p) where
 
   module _ (e : is_split (kind_at (records table) p) ≡ true) where
     pub split_two : length (named (record_at (records table) p)) ≡ 2
-    split_two = count_two table index p r (split_composed (kind_at (records table) p) e) (split_kind (kind_at (records table) p) e).0
+    split_two = count_two table p r (split_composed (kind_at (records table) p) e) (split_kind (kind_at (records table) p) e).0
 
     module _ (a : ℕ) (ea : a ≡ operand (record_at (records table) p) 0) (x : Bool) (tx : TellsShallow table a x) where
       shallow_by : shallow (pattern_at (records table) p) ≡ x && shallow (get_or (inner_of table p) 1 any)
@@ -141,20 +142,20 @@ module _ (table index : List ℕ) (p : ℕ) (r : Readable table index p) where
           ∙ wide_composed (record_at (records table) p) (inner_of table p) c (two c) v
           ∙ ap (λ (n : ℕ). is_large (kind_at (records table) p) v || exists (meetings (kind_at (records table) p) n v) (λ vs. wide_each (patterns_of (inner_of table p)) vs)) inner_length
 
-      module _ (m : Meeting) (h : Meets (kind_at (records table) p) (length (named (record_at (records table) p))) s part m) where
-        pub wide_unfit : m ≡ Unfit → TellsWide table p s part false
+      module _ (m : Result ℕ Misfit) (h : Meets (kind_at (records table) p) (length (named (record_at (records table) p))) s part m) where
+        pub wide_unfit : m ≡ Err Unfit → TellsWide table p s part false
         unfolding exists
         wide_unfit e v q =
-            let a : MeetsAs (kind_at (records table) p) (length (named (record_at (records table) p))) v Unfit = subst (MeetsAs (kind_at (records table) p) (length (named (record_at (records table) p))) v) e (h v q) in
+            let a : MeetsAs (kind_at (records table) p) (length (named (record_at (records table) p))) v (Err Unfit) = subst (MeetsAs (kind_at (records table) p) (length (named (record_at (records table) p))) v) e (h v q) in
             sym (wide_by v ∙ rw (a.0, a.1))
 
-        pub wide_large : m ≡ Large → TellsWide table p s part true
+        pub wide_large : m ≡ Err TooLarge → TellsWide table p s part true
         wide_large e v q =
             let a : is_large (kind_at (records table) p) v ≡ true = subst (MeetsAs (kind_at (records table) p) (length (named (record_at (records table) p))) v) e (h v q) in
             sym (wide_by v ∙ rw a)
 
-        module _ (w : ℕ) (e : m ≡ Ways w) where
-          ways_are : (v : Value) → PartIs s part v → MeetsAs (kind_at (records table) p) (length (named (record_at (records table) p))) v (Ways w)
+        module _ (w : ℕ) (e : m ≡ Ok w) where
+          ways_are : (v : Value) → PartIs s part v → MeetsAs (kind_at (records table) p) (length (named (record_at (records table) p))) v (Ok w)
           ways_are v q = subst (MeetsAs (kind_at (records table) p) (length (named (record_at (records table) p))) v) e (h v q)
 
           pub ways_held : PartHeld s part → length s ≤ 65536 → WaysHeld table p s part w
@@ -224,7 +225,7 @@ module _ (table index : List ℕ) (p : ℕ) (r : Readable table index p) where
         unfolding wide patterns_of
         parts_by l q e v z =
             let below : d < length (ways_of table p v) = subst (λ (u : Value). d < length (ways_of table p u)) (sym (part_one z h.here)) h.below in
-            let long : length (met_by table p v d) ≡ length (named (record_at (records table) p)) = meeting_length (kind_at (records table) p) (length (named (record_at (records table) p))) v d (part_well_formed z) (count_two table index p r h.composed) below in
+            let long : length (met_by table p v d) ≡ length (named (record_at (records table) p)) = meeting_length (kind_at (records table) p) (length (named (record_at (records table) p))) v d (part_well_formed z) (count_two table p r h.composed) below in
             ap₂ (λ (ps : List Pattern) (vs : List Value). wide_each (patterns_of ps) vs) (inner_next i q l e) (drop_next (met_by table p v d) i (boolean true) (omega (arith, long)))
 
         -- a part without a union or munion is passed over
@@ -236,8 +237,8 @@ module _ (table index : List ℕ) (p : ℕ) (r : Readable table index p) where
           pub piece_asked : PieceHeld kind n s part d i
           piece_asked = rw (x, y) (record {
             composed = h.composed;
-            few = count_few table index p r h.composed;
-            two = count_two table index p r h.composed;
+            few = count_few table p r h.composed;
+            two = count_two table p r h.composed;
             value = h.value;
             here = h.here;
             narrow = h.narrow;

@@ -1,4 +1,4 @@
-use Rattle.bindings.proofs.Wildcard.{any_holds, any_some, any_none}
+use Rattle.bindings.proofs.Wildcard.{any_holds, any_told}
 use native.Mathlib.Omega.{arith}
 use Rattle.bindings.proofs.open_any.Goals as goal
 
@@ -13,10 +13,6 @@ pub overflow_add-at : goal.overflow_add-at
 overflow_add-at c =
     let h = any_holds _ c.args.at c.args.whole c.requires.0 in omega (arith, h.whole, c.requires.1, c.length_of-n.ensures.is)
 
-pub returns-then-from-at : goal.returns-then-from-at
-returns-then-from-at c =
-    any_some _ c.args.at c.args.whole _ _ c.length_of-n.ensures.is c.first_at-from.ensures (omega arith)
-
 pub returns : goal.returns
 returns c =
-    any_none _ c.args.at c.args.whole _ _ c.length_of-n.ensures.is c.first_at-from.ensures (omega arith)
+    rw c.from.ensures (any_told _ c.args.at c.args.whole _ _ c.length_of-n.ensures.is c.first_at-from.ensures)

@@ -1,4 +1,4 @@
-use Rattle.bindings.proofs.Windows.{width_most, reach_there, reach_lent, reach_never, reach_told}
+use Rattle.bindings.proofs.Windows.{width_most, reach_there, reach_lent, reach_or}
 use native.Mathlib.Omega.{arith}
 use Rattle.bindings.proofs.reach.Goals as goal
 
@@ -17,13 +17,9 @@ pub returns-then-cursor-k-le-WINDOW : goal.returns-then-cursor-k-le-WINDOW
 returns-then-cursor-k-le-WINDOW c =
     reach_there _ _ _ c.args.at c.args.whole c.args.to _ _ c.requires.reachable (omega arith) (omega arith)
 
-pub form_from-r-requires : goal.form_from-r-requires
-form_from-r-requires c = record { readable = c.requires.readable; lent_from = reach_lent _ _ _ c.args.at c.args.whole c.args.to _ _ c.requires.reachable }
+pub form_from-requires : goal.form_from-requires
+form_from-requires c = record { readable = c.requires.readable; lent_from = reach_lent _ _ _ c.args.at c.args.whole c.args.to _ _ c.requires.reachable }
 
-pub returns-in-Refused : goal.returns-in-Refused
-returns-in-Refused c =
-    absurd (reach_never _ _ _ c.args.at c.args.whole c.args.to _ _ c.requires.reachable _ _ c.form_from-r.ensures _ c.in-Refused.is)
-
-pub returns-in-Bound : goal.returns-in-Bound
-returns-in-Bound c =
-    reach_told _ _ _ c.args.at c.args.whole c.args.to _ _ c.requires.reachable _ _ c.form_from-r.ensures _ c.in-Bound.is
+pub returns : goal.returns
+returns c =
+    rw c.unwrap_or.ensures (reach_or _ _ _ c.args.at c.args.whole c.args.to _ _ c.requires.reachable _ _ c.form_from.ensures)

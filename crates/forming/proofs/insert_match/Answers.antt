@@ -1,12 +1,10 @@
-use mathlib.Core.Path.{refl, sym, subst}
-use Rattle.prelude.proofs.Absurd.{true_false}
-use Rattle.forming.specs.Rows.{Entered}
+use Rattle.std.proofs.lemmas.Result.{err_from_is_err_and}
+use Rattle.forming.proofs.Rowing.{match_made, match_refused}
 use Rattle.forming.proofs.insert_match.Goals as goal
 
-pub returns-in-Refused : goal.returns-in-Refused
-returns-in-Refused c =
-    record { full = λ x. (refl, λ b bs h g. (subst (Entered _ _ _ _) c.in-Refused.is (c.insert_row-formed.ensures.right b bs h g)).1); going = λ x. true_false x }
+pub returns-in_err-k : goal.returns-in_err-k
+returns-in_err-k c =
+    let p = err_from_is_err_and c.from_residual.result c.from_residual.ensures.1 in rw (p.1, p.2) (match_refused _ _ _ _ _ _ _ _ c.requires _ c.in_err-k.ensures)
 
-pub returns-in-Number : goal.returns-in-Number
-returns-in-Number c =
-    record { full = λ x. true_false (sym x); going = λ x. (refl, refl, λ b bs h g. subst (Entered _ _ _ _) c.in-Number.is (c.insert_row-formed.ensures.right b bs h g), c.insert_row-formed.ensures.appended _ c.in-Number.is) }
+pub returns : goal.returns
+returns c = match_made _ _ _ _ _ _ _ _ _ c.in_ok-k.ensures

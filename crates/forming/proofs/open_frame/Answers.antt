@@ -10,7 +10,7 @@ use Rattle.patterns.specs.Nodes.{collection_of, width}
 use Rattle.forming.proofs.open_frame.Goals as goal
 
 pub overflow_cast-whole : goal.overflow_cast-whole
-overflow_cast-whole c = let r = c.requires.waiting.composed.readable in omega (arith, r.here.within, r.fine.few)
+overflow_cast-whole c = let r = c.requires.waiting.composed.readable in omega (arith, r.here, r.fine.few)
 
 pub reduced-p-requires : goal.reduced-p-requires
 reduced-p-requires c = c.requires.waiting.composed
@@ -21,9 +21,9 @@ kind-k-requires c = c.reduced-p.ensures.composed.readable.here
 pub operand_count-c-requires : goal.operand_count-c-requires
 operand_count-c-requires c = c.reduced-p.ensures.composed.readable.here
 
-pub meet-m-requires : goal.meet-m-requires
-meet-m-requires c =
-    (ap is_composed c.kind-k.ensures.0 ∙ c.reduced-p.ensures.composed.composed, (let r = c.reduced-p.ensures.composed in omega (arith, count_few _ _ _ r.readable r.composed, c.operand_count-c.ensures.0, ap (λ (k : ℕ). width (collection_of k)) c.kind-k.ensures.0)), part_of _ _ _ c.requires.waiting.value c.unpack-part.ensures c.requires.waiting.here)
+pub meet-requires : goal.meet-requires
+meet-requires c =
+    (ap is_composed c.kind-k.ensures.0 ∙ c.reduced-p.ensures.composed.composed, (let r = c.reduced-p.ensures.composed in omega (arith, count_few _ _ r.readable r.composed, c.operand_count-c.ensures.0, ap (λ (k : ℕ). width (collection_of k)) c.kind-k.ensures.0)), part_of _ _ _ c.requires.waiting.value c.unpack-part.ensures c.requires.waiting.here)
 
 pub sizes_of-sizes-requires : goal.sizes_of-sizes-requires
 sizes_of-sizes-requires c =
@@ -31,7 +31,7 @@ sizes_of-sizes-requires c =
 
 pub way_from-way-requires : goal.way_from-way-requires
 way_from-way-requires c =
-    first_asked _ _ _ _ _ _ _ _ _ _ _ _ _ _ _ c.requires.waiting _ c.reduced-p.ensures c.meet-m.result (met_as _ _ _ _ _ _ _ _ _ _ _ _ _ _ _ c.requires.waiting _ c.reduced-p.ensures _ _ _ c.meet-m.result c.kind-k.ensures.0 c.operand_count-c.ensures.0 c.unpack-part.ensures c.meet-m.ensures) _ c.in-Ways.is _ c.kind-k.ensures.0 _ c.sizes_of-sizes.ensures
+    first_asked _ _ _ _ _ _ _ _ _ _ _ _ _ _ c.requires.waiting _ c.reduced-p.ensures c.meet.result (met_as _ _ _ _ _ _ _ _ _ _ _ _ _ _ c.requires.waiting _ c.reduced-p.ensures _ _ _ c.meet.result c.kind-k.ensures.0 c.operand_count-c.ensures.0 c.unpack-part.ensures c.meet.ensures) _ c.in-Ok.is _ c.kind-k.ensures.0 _ c.sizes_of-sizes.ensures
 
 pub is_settled-once-requires : goal.is_settled-once-requires
 is_settled-once-requires c = c.reduced-p.ensures.composed.readable
@@ -42,22 +42,22 @@ mask_of-mask-requires c = c.requires.waiting.stacked.sized
 pub tests_of-tests-requires : goal.tests_of-tests-requires
 tests_of-tests-requires c = c.reduced-p.ensures.composed
 
-pub asked_by_union-asked-requires : goal.asked_by_union-asked-requires
-asked_by_union-asked-requires c =
+pub asked_by_union-requires : goal.asked_by_union-requires
+asked_by_union-requires c =
     (record { readable = c.reduced-p.ensures.composed.readable; short = c.requires.waiting.stacked.short; standing = (c.requires.waiting.binding, c.requires.waiting.stands) }, part_of _ _ _ c.requires.waiting.value c.unpack-part.ensures c.requires.waiting.here)
-
-pub returns-in-Lacked : goal.returns-in-Lacked
-returns-in-Lacked c =
-    record { right = λ hit rows order target w. unmatched _ _ _ _ _ _ _ _ _ _ _ _ _ _ _ w _ c.reduced-p.ensures _ c.unpack-part.ensures (c.asked_by_union-asked.ensures c.in-Lacked.is); less = not_opened_less _ _ _ }
 
 pub advance-requires : goal.advance-requires
 advance-requires c =
-    (depth_few _ _ _ _ _ _ _ _ _ _ _ _ _ _ _ c.requires.waiting, c.requires.waiting.stacked.frames_long, frame_fits _ _ _ _ _ _ _ _ _ _ _ _ _ _ _ c.requires.waiting _ c.reduced-p.ensures c.meet-m.result (met_as _ _ _ _ _ _ _ _ _ _ _ _ _ _ _ c.requires.waiting _ c.reduced-p.ensures _ _ _ c.meet-m.result c.kind-k.ensures.0 c.operand_count-c.ensures.0 c.unpack-part.ensures c.meet-m.ensures) _ c.in-Ways.is _ c.kind-k.ensures.0 _ c.sizes_of-sizes.ensures _ c.way_from-way.ensures _ c.is_settled-once.ensures _ c.mask_of-mask.ensures _ c.tests_of-tests.ensures _)
+    (depth_few _ _ _ _ _ _ _ _ _ _ _ _ _ _ c.requires.waiting, c.requires.waiting.stacked.frames_long, frame_fits _ _ _ _ _ _ _ _ _ _ _ _ _ _ c.requires.waiting _ c.reduced-p.ensures c.meet.result (met_as _ _ _ _ _ _ _ _ _ _ _ _ _ _ c.requires.waiting _ c.reduced-p.ensures _ _ _ c.meet.result c.kind-k.ensures.0 c.operand_count-c.ensures.0 c.unpack-part.ensures c.meet.ensures) _ c.in-Ok.is _ c.kind-k.ensures.0 _ c.sizes_of-sizes.ensures _ c.way_from-way.ensures _ c.is_settled-once.ensures _ c.mask_of-mask.ensures _ c.tests_of-tests.ensures _)
 
-pub returns-in-Ways : goal.returns-in-Ways
-returns-in-Ways c =
-    record { right = λ hit rows order target w. frame_opened _ _ _ _ _ _ _ _ _ _ _ _ _ _ _ w _ c.reduced-p.ensures c.meet-m.result (met_as _ _ _ _ _ _ _ _ _ _ _ _ _ _ _ w _ c.reduced-p.ensures _ _ _ c.meet-m.result c.kind-k.ensures.0 c.operand_count-c.ensures.0 c.unpack-part.ensures c.meet-m.ensures) _ c.in-Ways.is _ c.kind-k.ensures.0 _ c.sizes_of-sizes.ensures _ c.way_from-way.ensures _ c.is_settled-once.ensures _ c.mask_of-mask.ensures _ c.tests_of-tests.ensures _ _ _ c.advance.ensures; less = opened_less _ _ (depth_few _ _ _ _ _ _ _ _ _ _ _ _ _ _ _ c.requires.waiting) c.requires.waiting.stacked.frames_long _ _ _ c.advance.ensures (ways_few _ _ _ _ _ _ _ _ _ _ _ _ _ _ _ c.requires.waiting _ c.reduced-p.ensures c.meet-m.result (met_as _ _ _ _ _ _ _ _ _ _ _ _ _ _ _ c.requires.waiting _ c.reduced-p.ensures _ _ _ c.meet-m.result c.kind-k.ensures.0 c.operand_count-c.ensures.0 c.unpack-part.ensures c.meet-m.ensures) _ c.in-Ways.is _ c.kind-k.ensures.0 _ c.sizes_of-sizes.ensures) }
+pub returns-in_default : goal.returns-in_default
+returns-in_default c =
+    record { right = λ hit rows order target w. no_ways _ _ _ _ _ _ _ _ _ _ _ _ _ _ w _ c.reduced-p.ensures c.meet.result (met_as _ _ _ _ _ _ _ _ _ _ _ _ _ _ w _ c.reduced-p.ensures _ _ _ c.meet.result c.kind-k.ensures.0 c.operand_count-c.ensures.0 c.unpack-part.ensures c.meet.ensures) c.in_default.not-Ok; less = not_opened_less _ _ _ }
 
 pub returns : goal.returns
 returns c =
-    record { right = λ hit rows order target w. no_ways _ _ _ _ _ _ _ _ _ _ _ _ _ _ _ w _ c.reduced-p.ensures c.meet-m.result (met_as _ _ _ _ _ _ _ _ _ _ _ _ _ _ _ w _ c.reduced-p.ensures _ _ _ c.meet-m.result c.kind-k.ensures.0 c.operand_count-c.ensures.0 c.unpack-part.ensures c.meet-m.ensures) c.in_default.not-Ways; less = not_opened_less _ _ _ }
+    record { right = λ hit rows order target w. frame_opened _ _ _ _ _ _ _ _ _ _ _ _ _ _ w _ c.reduced-p.ensures c.meet.result (met_as _ _ _ _ _ _ _ _ _ _ _ _ _ _ w _ c.reduced-p.ensures _ _ _ c.meet.result c.kind-k.ensures.0 c.operand_count-c.ensures.0 c.unpack-part.ensures c.meet.ensures) _ c.in-Ok.is _ c.kind-k.ensures.0 _ c.sizes_of-sizes.ensures _ c.way_from-way.ensures _ c.is_settled-once.ensures _ c.mask_of-mask.ensures _ c.tests_of-tests.ensures _ _ _ c.advance.ensures; less = opened_less _ _ (depth_few _ _ _ _ _ _ _ _ _ _ _ _ _ _ c.requires.waiting) c.requires.waiting.stacked.frames_long _ _ _ c.advance.ensures (ways_few _ _ _ _ _ _ _ _ _ _ _ _ _ _ c.requires.waiting _ c.reduced-p.ensures c.meet.result (met_as _ _ _ _ _ _ _ _ _ _ _ _ _ _ c.requires.waiting _ c.reduced-p.ensures _ _ _ c.meet.result c.kind-k.ensures.0 c.operand_count-c.ensures.0 c.unpack-part.ensures c.meet.ensures) _ c.in-Ok.is _ c.kind-k.ensures.0 _ c.sizes_of-sizes.ensures) }
+
+pub returns-in_default-asked_by_union : goal.returns-in_default-asked_by_union
+returns-in_default-asked_by_union c =
+    record { right = λ hit rows order target w. unmatched _ _ _ _ _ _ _ _ _ _ _ _ _ _ w _ c.reduced-p.ensures _ c.unpack-part.ensures (c.asked_by_union.ensures _ c.in_default-asked_by_union.is); less = not_opened_less _ _ _ }

@@ -3,7 +3,4 @@ use Rattle.forming.proofs.Pushing.{PushSoFar}
 use Rattle.forming.proofs.push_all.Given as goal
 
 abbrev pub invariant-loop-i : goal.invariant-loop-i
-invariant-loop-i l = PushSoFar l.table l.index l.p l.s (unpacked l.word) l.d l.initial.agenda l.next l.top 0 0 l.agenda l.head l.i l.to
-
-abbrev pub decreases-loop-i : goal.decreases-loop-i
-decreases-loop-i l = l.i
+invariant-loop-i l = PushSoFar l.sheet l.p l.s (unpacked l.word) l.d l.initial.agenda l.next l.top 0 0 l.agenda l.head l.i l.to

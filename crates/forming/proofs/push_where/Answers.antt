@@ -13,18 +13,15 @@ pub unpack-part-requires : goal.unpack-part-requires
 unpack-part-requires c = tt
 
 pub loop-i-init : goal.loop-i-init
-loop-i-init c = push_start _ _ _ _ _ _ _ _ _ _ _ c.requires _ c.operand_count-n.ensures.0
-
-pub overflow_sub-i : goal.overflow_sub-i
-overflow_sub-i c = omega arith
+loop-i-init c = push_start _ _ _ _ _ _ _ _ _ _ c.requires _ c.operand_count-n.ensures.0
 
 pub overflow_shr-bits : goal.overflow_shr-bits
 overflow_shr-bits c =
-    omega (arith, c.loop-i.invariant.within, count_most _ _ _ c.requires.composed.readable c.requires.composed.composed)
+    omega (arith, c.loop-i.invariant.within, count_most _ _ c.requires.composed.readable c.requires.composed.composed)
 
 pub push_part-requires : goal.push_part-requires
 push_part-requires c =
-    part_asked _ _ _ _ _ _ _ _ _ _ _ c.requires _ _ (omega arith) _ _ _ c.loop-i.invariant (omega arith) c.if-bits-i.true _ _ c.kind-k.ensures.0 c.operand_count-n.ensures.0 _ c.unpack-part.ensures
+    part_asked _ _ _ _ _ _ _ _ _ _ c.requires _ _ (omega arith) _ _ _ c.loop-i.invariant (omega arith) c.if-bits-i.true _ _ c.kind-k.ensures.0 c.operand_count-n.ensures.0 _ c.unpack-part.ensures
 
 pub overflow_add-to : goal.overflow_add-to
 overflow_add-to c = omega (arith, c.loop-i.invariant.room)
@@ -34,14 +31,11 @@ loop-i-smaller-then-bits-i c = omega arith
 
 pub loop-i-preserved-then-bits-i : goal.loop-i-preserved-then-bits-i
 loop-i-preserved-then-bits-i c =
-    push_more _ _ _ _ _ _ _ _ _ _ _ c.requires _ _ (omega arith) _ _ _ c.loop-i.invariant (omega arith) c.if-bits-i.true _ c.unpack-part.ensures _ c.push_part.ensures
-
-pub loop-i-smaller : goal.loop-i-smaller
-loop-i-smaller c = omega arith
+    push_more _ _ _ _ _ _ _ _ _ _ c.requires _ _ (omega arith) _ _ _ c.loop-i.invariant (omega arith) c.if-bits-i.true _ c.unpack-part.ensures _ c.push_part.ensures
 
 pub loop-i-preserved : goal.loop-i-preserved
 loop-i-preserved c =
-    push_not _ _ _ _ _ _ _ _ _ _ _ c.requires _ _ (omega arith) _ _ _ c.loop-i.invariant (omega arith) c.if-bits-i.false
+    push_not _ _ _ _ _ _ _ _ _ _ c.requires _ _ (omega arith) _ _ _ c.loop-i.invariant (omega arith) c.if-bits-i.false
 
 pub returns : goal.returns
-returns c = push_end _ _ _ _ _ _ _ _ _ _ _ c.requires _ _ _ _ (omega arith) c.loop-i.invariant
+returns c = push_end _ _ _ _ _ _ _ _ _ _ c.requires _ _ _ _ (omega arith) c.loop-i.invariant

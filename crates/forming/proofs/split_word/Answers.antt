@@ -1,4 +1,3 @@
-use native.Mathlib.Omega.{arith}
 use mathlib.Core.Path.{refl, sym, ◌∙◌}
 use mathlib.Core.Logic.{inr}
 use Rattle.patterns.specs.Binding.{is}
@@ -7,8 +6,8 @@ use Rattle.forming.proofs.split_word.Goals as goal
 
 pub word_of-requires : goal.word_of-requires
 word_of-requires c =
-    (c.requires.short, (is c.requires.value, inr (c.requires.value, refl, all_units _ _ _ _ c.requires (sym c.is_split-united.ensures ∙ c.if-not-united.false) _ c.unpack-p.ensures (omega arith) _ refl)))
+    (c.requires.short, (is c.requires.value, inr (c.requires.value, refl, all_units _ _ _ _ c.requires (sym c.is_split.ensures ∙ c.if-not-is_split.false) _ c.unpack-p.ensures c.in-Whole.is _ refl)))
 
 pub returns : goal.returns
 returns c =
-    packed_same _ _ _ _ c.requires _ (all_units _ _ _ _ c.requires (sym c.is_split-united.ensures ∙ c.if-not-united.false) _ c.unpack-p.ensures (omega arith) _ refl) _ c.word_of.ensures
+    packed_same _ _ _ _ c.requires _ (all_units _ _ _ _ c.requires (sym c.is_split.ensures ∙ c.if-not-is_split.false) _ c.unpack-p.ensures c.in-Whole.is _ refl) _ c.word_of.ensures

@@ -2,8 +2,8 @@
 use Rattle.std.specs.Prelude.{◌≡◌, refl, ◌⊎◌, List, [], ◌∷◌, ◌++◌, ℕ, zero, suc, ◌≤◌, ◌<◌, length, get_or, take, drop}
 use Rattle.std.proofs.Common.{sym, ap, ◌∙◌, inl, inr, ⊎_elim, arith}
 use Rattle.prelude.specs.Membership.{In}
-use Rattle.integers.specs.declared.Order.{Order}
-use Rattle.integers.specs.declared.Order.TheVariants.{Lower, Same, Higher}
+use Rattle.std.specs.declared.cmp.Ordering.{Ordering}
+use Rattle.std.specs.declared.cmp.Ordering.TheVariants.{Less, Equal, Greater}
 use Rattle.values.specs.Items.{in_order}
 use Rattle.patterns.specs.Ways.{gather}
 use Rattle.patterns.specs.Members.{Alike}
@@ -33,10 +33,10 @@ unfolding place
 place_longer b [] = omega arith
 place_longer b (c ∷ cs) = go (order_bindings b c) (place_longer b cs)
   where
-    go : (o : Order) → length cs ≤ length (place b cs) → suc (length cs) ≤ length (in_order o (b ∷ c ∷ cs) (c ∷ cs) (c ∷ place b cs))
-    go Lower h = omega arith
-    go Same h = omega arith
-    go Higher h = omega arith
+    go : (o : Ordering) → length cs ≤ length (place b cs) → suc (length cs) ≤ length (in_order o (b ∷ c ∷ cs) (c ∷ cs) (c ∷ place b cs))
+    go Less h = omega arith
+    go Equal h = omega arith
+    go Greater h = omega arith
 
 pub adding_longer : (xs bs : List Binding) → length bs ≤ length (adding xs bs)
 unfolding adding
@@ -88,13 +88,13 @@ pub placed_sorted : (b : Binding) (bs cs : List Binding) → bs ≡ sorted cs �
 unfolding sorted
 placed_sorted b bs cs e = ap (place b) e
 
-pub flip_higher : (a b : Binding) → order_bindings a b ≡ Lower → order_bindings b a ≡ Higher
+pub flip_higher : (a b : Binding) → order_bindings a b ≡ Less → order_bindings b a ≡ Greater
 flip_higher a b e = bindings_flip a b ∙ rw e
 
 pub place_there : (b : Binding) (bs : List Binding) → Rising bs → In b bs → place b bs ≡ bs
 unfolding place
 place_there b [] h i = absurd i
-place_there b (c ∷ cs) h (inl e) = let o : order_bindings b c ≡ Same = ap (order_bindings b) (sym e) ∙ bindings_refl b in rw o
+place_there b (c ∷ cs) h (inl e) = let o : order_bindings b c ≡ Equal = ap (order_bindings b) (sym e) ∙ bindings_refl b in rw o
 place_there b (c ∷ cs) h (inr i) =
     let o = flip_higher c b (before_in c cs b h.0 i) in
     rw o (ap (λ (l : List Binding). c ∷ l) (place_there b cs h.1 i))
@@ -102,8 +102,8 @@ place_there b (c ∷ cs) h (inr i) =
 -- Those before k are lower than b, those from k on are higher.
 pub record Parted (b : Binding) (bs : List Binding) (k : ℕ) : Type 0 where
   pub within : k ≤ length bs
-  pub before : (j : ℕ) → j < k → order_bindings b (get_or bs j nothing) ≡ Higher
-  pub from : (j : ℕ) → k ≤ j → j < length bs → order_bindings b (get_or bs j nothing) ≡ Lower
+  pub before : (j : ℕ) → j < k → order_bindings b (get_or bs j nothing) ≡ Greater
+  pub from : (j : ℕ) → k ≤ j → j < length bs → order_bindings b (get_or bs j nothing) ≡ Less
 
 pub place_parted : (b : Binding) (bs : List Binding) (k : ℕ) → Parted b bs k → place b bs ≡ take k bs ++ (b ∷ drop k bs)
 unfolding place

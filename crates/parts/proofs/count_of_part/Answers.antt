@@ -6,16 +6,16 @@ use Rattle.parts.proofs.Parting.{record_of, units_counted, run_held, part_counte
 use Rattle.parts.proofs.count_of_part.Goals as goal
 
 pub kind_of-kind-requires : goal.kind_of-kind-requires
-kind_of-kind-requires c = record_of (λ z. omega (arith, c.if-p-eq-UNITS.true)) c.requires.here
+kind_of-kind-requires c = record_of (λ z. cc (c.in-Units.is)) c.requires.here
 
-pub overflow_cast-units : goal.overflow_cast-units
-overflow_cast-units c = omega (arith, ones-le 64 c.args.p.extent (omega arith))
+pub overflow_cast-result : goal.overflow_cast-result
+overflow_cast-result c = omega (arith, ones-le 64 c.args.p.extent (omega arith))
 
 pub overflow_mul-result : goal.overflow_mul-result
 overflow_mul-result c = omega (arith, mul-le-mul (ones-le 64 c.args.p.extent (omega arith)) c.width.ensures.2)
 
-pub returns-then-p-eq-UNITS : goal.returns-then-p-eq-UNITS
-returns-then-p-eq-UNITS c = units_counted c.if-p-eq-UNITS.true c.kind_of-kind.ensures c.width.ensures.0
+pub returns-in-Units : goal.returns-in-Units
+returns-in-Units c = units_counted c.in-Units.is c.kind_of-kind.ensures c.width.ensures.0
 
 pub count-requires : goal.count-requires
 count-requires c = run_held c.requires c.run_of-r.ensures

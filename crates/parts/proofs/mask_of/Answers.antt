@@ -2,8 +2,8 @@
 use Rattle.parts.proofs.Halving.{countable_held, countable_part, mask_selects, counted_few, mask_full}
 use Rattle.parts.proofs.mask_of.Goals as goal
 
-pub returns-then-p-eq-UNITS : goal.returns-then-p-eq-UNITS
-returns-then-p-eq-UNITS c = mask_selects c.if-p-eq-UNITS.true c.requires
+pub returns-in-Units : goal.returns-in-Units
+returns-in-Units c = mask_selects c.in-Units.is c.requires
 
 pub kind_of_part-kind-requires : goal.kind_of_part-kind-requires
 kind_of_part-kind-requires c = countable_part c.requires
@@ -16,4 +16,4 @@ full-requires c = counted_few c.kind_of_part-kind.ensures c.count_of_part-n.ensu
 
 pub returns : goal.returns
 returns c =
-    mask_full c.kind_of_part-kind.ensures c.count_of_part-n.ensures c.width.ensures.0 c.if-p-eq-UNITS.false c.requires c.full.ensures
+    mask_full c.kind_of_part-kind.ensures c.count_of_part-n.ensures c.width.ensures.0 c.in_default.not-Units c.requires c.full.ensures

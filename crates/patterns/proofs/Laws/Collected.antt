@@ -5,7 +5,7 @@ use Rattle.std.proofs.Math.Path.{ap}
 use mathlib.Core.List.{List, [], ◌∷◌, map, map-id}
 use Rattle.prelude.proofs.Absurd.{true_false}
 use Rattle.prelude.specs.Membership.{In}
-use Rattle.integers.specs.declared.Order.TheVariants.{Lower}
+use Rattle.std.specs.declared.cmp.Ordering.TheVariants.{Less}
 use Rattle.values.specs.Value.{Kind, set, sequence, map as mapping, tuple, Value, more, every_other, keys, order, Before, Ascending, PairedFrom, Paired, Shaped}
 use Rattle.values.specs.Entries.{Entry, flat}
 use Rattle.patterns.specs.Ways.{proper_splits, orders}
@@ -65,14 +65,14 @@ abbrev pub Led : {A : Type 0} → (A → Value) → List A → Type 0
 Led first us = Ascending (items_of (map first us))
 
 module _ {A : Type 0} (first : A → Value) where
-  before_each : (v : Value) (us : List A) → Before v (items_of (map first us)) → (w : A) → In w us → order v (first w) ≡ Lower
+  before_each : (v : Value) (us : List A) → Before v (items_of (map first us)) → (w : A) → In w us → order v (first w) ≡ Less
   unfolding Before items_of
   before_each v [] h w i = absurd i
   before_each v (u ∷ us) h w (inl e) = ap (λ (x : A). order v (first x)) e ∙ h.0
   before_each v (u ∷ us) h w (inr i) = before_each v us h.1 w i
 
   -- the first is lower than all others, and these are ascending
-  pub led_first : (u : A) (us : List A) → Led first (u ∷ us) → ((w : A) → In w us → order (first u) (first w) ≡ Lower) × Led first us
+  pub led_first : (u : A) (us : List A) → Led first (u ∷ us) → ((w : A) → In w us → order (first u) (first w) ≡ Less) × Led first us
   unfolding Ascending items_of
   led_first u us h = (before_each (first u) us h.0, h.1)
 

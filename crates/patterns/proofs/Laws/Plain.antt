@@ -2,8 +2,8 @@
 use Rattle.std.specs.Prelude.{◌≡◌, refl, false, List, [], ◌∷◌, map, ℕ, zero, suc, ◌≤◌, ◌<◌, length, set as put}
 use Rattle.std.proofs.Common.{ap, ◌∙◌, arith, le-leb}
 use Rattle.std.proofs.lemmas.List.{length-map}
-use Rattle.integers.specs.declared.Order.{Order}
-use Rattle.integers.specs.declared.Order.TheVariants.{Lower, Same, Higher}
+use Rattle.std.specs.declared.cmp.Ordering.{Ordering}
+use Rattle.std.specs.declared.cmp.Ordering.TheVariants.{Less, Equal, Greater}
 use Rattle.values.specs.Value.{Value, collection, set, Items, none, more, count, order, after, Before, Ascending, WellFormed}
 use Rattle.values.specs.Items.{in_order}
 use Rattle.values.proofs.Order.{order_refl}
@@ -17,12 +17,12 @@ use Rattle.patterns.proofs.Laws.Ordered.{bindings_refl, BeforeEach, Rising}
 
 -- ---- one name's value decides
 
-after-rest : (o : Order) → after o Same ≡ o
-after-rest Lower = refl
-after-rest Same = refl
-after-rest Higher = refl
+after-rest : (o : Ordering) → after o Equal ≡ o
+after-rest Less = refl
+after-rest Equal = refl
+after-rest Greater = refl
 
-pub cell_refl : (c : Cell) → order_cells c c ≡ Same
+pub cell_refl : (c : Cell) → order_cells c c ≡ Equal
 cell_refl free = refl
 cell_refl (is v) = order_refl v
 cell_refl clash = refl
@@ -42,7 +42,7 @@ only_order x v w h = put_order nothing x v w h
 place_first : (b : Binding) (cs : List Binding) → BeforeEach b cs → place b cs ≡ b ∷ cs
 unfolding place
 place_first b [] h = refl
-place_first b (c ∷ cs) h = ap (λ (o : Order). in_order o (b ∷ c ∷ cs) (c ∷ cs) (c ∷ place b cs)) h.0
+place_first b (c ∷ cs) h = ap (λ (o : Ordering). in_order o (b ∷ c ∷ cs) (c ∷ cs) (c ∷ place b cs)) h.0
 
 -- what is in order stays as it is
 pub sorted_same : (bs : List Binding) → Rising bs → sorted bs ≡ bs

@@ -4,8 +4,8 @@ use Rattle.std.proofs.Math.Option.{Option, none as absent, some}
 use Rattle.std.proofs.Common.{arith, length-append}
 use Rattle.prelude.proofs.Absurd.{impossible}
 use Rattle.prelude.proofs.Truth.{or_false_left, or_false_right}
-use Rattle.integers.specs.declared.Order.{Order}
-use Rattle.integers.specs.declared.Order.TheVariants.{Lower, Same, Higher}
+use Rattle.std.specs.declared.cmp.Ordering.{Ordering}
+use Rattle.std.specs.declared.cmp.Ordering.TheVariants.{Less, Equal, Greater}
 use Rattle.values.specs.Value.{Kind, set, sequence, map as mapping, tuple, Value}
 use Rattle.values.specs.Items.{same, in_order}
 use Rattle.patterns.specs.Ways.{gather}
@@ -79,10 +79,10 @@ mutual
 
 -- ---- and in order
 
-placed_few : (o : Order) (b c : Binding) (cs ds : List Binding) → length ds ≤ suc (length cs) → length (in_order o (b ∷ c ∷ cs) (c ∷ cs) (c ∷ ds)) ≤ suc (suc (length cs))
-placed_few Lower b c cs ds h = omega arith
-placed_few Same b c cs ds h = omega arith
-placed_few Higher b c cs ds h = omega arith
+placed_few : (o : Ordering) (b c : Binding) (cs ds : List Binding) → length ds ≤ suc (length cs) → length (in_order o (b ∷ c ∷ cs) (c ∷ cs) (c ∷ ds)) ≤ suc (suc (length cs))
+placed_few Less b c cs ds h = omega arith
+placed_few Equal b c cs ds h = omega arith
+placed_few Greater b c cs ds h = omega arith
 
 place_few : (b : Binding) (cs : List Binding) → length (place b cs) ≤ suc (length cs)
 unfolding place

@@ -1,4 +1,3 @@
-use Prim.Native.Nat.{◌-◌}
 use Rattle.splitting.proofs.Telling.{NoSplitTo}
 use Rattle.splitting.proofs.+has_split.Given as goal
 
@@ -6,7 +5,4 @@ abbrev pub decreases-has_split : goal.decreases-has_split
 decreases-has_split l = l.p
 
 abbrev pub invariant-loop-i : goal.invariant-loop-i
-invariant-loop-i l = NoSplitTo l.table l.p l.i
-
-abbrev pub decreases-loop-i : goal.decreases-loop-i
-decreases-loop-i l = l.n - l.i
+invariant-loop-i l = NoSplitTo l.sheet l.p l.i

@@ -1,11 +1,12 @@
 use native.Mathlib.Omega.{arith}
 use mathlib.Core.Path.{ap, ◌∙◌}
+use Rattle.std.specs.Prelude.{Err}
 use Rattle.tables.specs.Record.{is_composed}
 use Rattle.tables.proofs.Laws.Kinds.{composed_told}
 use Rattle.matching.proofs.Records.{count_fits, has_operand, operand_readable, recast_meets}
 use Rattle.splitting.proofs.Telling.{wide_leaf, wide_unfit, wide_large, ways_held, wide_ways_lem, ways_shallow, ways_start, ways_none, way_held, ways_found, ways_next, parts_start, parts_none, piece_asked, piece_held, parts_past, parts_found, parts_next}
 use Rattle.splitting.proofs.+in_way_in_ways_too_large.Goals as goal
-use Rattle.splitting.proofs.+in_way_in_ways_too_large.Goals.{in_way-then-split+else-wide, in_way-else-split}
+use Rattle.splitting.proofs.+in_way_in_ways_too_large.Goals.{in_way-then-split+else-too_large, in_way-else-split}
 
 pub in_way-kind-k-requires : goal.in_way-kind-k-requires
 in_way-kind-k-requires t c = c.requires.0.here
@@ -14,73 +15,61 @@ pub in_way-operand_count-n-requires : goal.in_way-operand_count-n-requires
 in_way-operand_count-n-requires t c = c.requires.0.here
 
 pub in_way-loop-i-init : goal.in_way-loop-i-init
-in_way-loop-i-init t c = parts_start _ _ _ c.requires.0 _ _ _ c.requires.1
+in_way-loop-i-init t c = parts_start _ _ c.requires.0 _ _ _ c.requires.1
 
 pub in_way-operand-q-requires : goal.in_way-operand-q-requires
-in_way-operand-q-requires t c = has_operand _ _ _ c.requires.0 _ (omega (arith, c.operand_count-n.ensures.0))
+in_way-operand-q-requires t c = has_operand _ _ c.requires.0 _ (omega (arith, c.operand_count-n.ensures.0))
 
 pub in_way-has_split-split-requires : goal.in_way-has_split-split-requires
 in_way-has_split-split-requires t c =
-    (operand_readable _ _ _ c.requires.0 _ (omega (arith, c.operand_count-n.ensures.0)) _ c.operand-q.ensures.0).0
+    (operand_readable _ _ c.requires.0 _ (omega (arith, c.operand_count-n.ensures.0)) _ c.operand-q.ensures.0).0
 
 pub in_way-piece-a-requires : goal.in_way-piece-a-requires
 in_way-piece-a-requires t c =
-    piece_asked _ _ _ c.requires.0 _ _ _ c.requires.1 _ c.loop-i.invariant (omega (arith, c.operand_count-n.ensures.0)) _ _ c.kind-k.ensures.0 c.operand_count-n.ensures.0
+    piece_asked _ _ c.requires.0 _ _ _ c.requires.1 _ c.loop-i.invariant (omega (arith, c.operand_count-n.ensures.0)) _ _ c.kind-k.ensures.0 c.operand_count-n.ensures.0
 
-pub in_way-too_large-wide-requires : goal.in_way-too_large-wide-requires
-in_way-too_large-wide-requires t c =
-    let o = operand_readable _ _ _ c.requires.0 _ (omega (arith, c.operand_count-n.ensures.0)) _ c.operand-q.ensures.0 in (omega (arith, o.1), (o.0, piece_held _ _ _ c.requires.0 _ _ _ c.requires.1 _ c.loop-i.invariant (omega (arith, c.operand_count-n.ensures.0)) _ _ c.kind-k.ensures.0 c.operand_count-n.ensures.0 _ c.piece-a.ensures, c.requires.1.short))
+pub in_way-too_large-requires : goal.in_way-too_large-requires
+in_way-too_large-requires t c =
+    let o = operand_readable _ _ c.requires.0 _ (omega (arith, c.operand_count-n.ensures.0)) _ c.operand-q.ensures.0 in (omega (arith, o.1), (o.0, piece_held _ _ c.requires.0 _ _ _ c.requires.1 _ c.loop-i.invariant (omega (arith, c.operand_count-n.ensures.0)) _ _ c.kind-k.ensures.0 c.operand_count-n.ensures.0 _ c.piece-a.ensures, c.requires.1.short))
 
-pub in_way-returns-then-wide : goal.in_way-returns-then-wide
-in_way-returns-then-wide t c =
-    parts_found _ _ _ c.requires.0 _ _ _ c.requires.1 _ c.loop-i.invariant (omega (arith, c.operand_count-n.ensures.0)) _ _ c.kind-k.ensures.0 c.operand_count-n.ensures.0 _ c.piece-a.ensures _ c.operand-q.ensures.0 _ c.too_large-wide.ensures c.if-wide.true
-
-pub in_way-overflow_add-i : goal.in_way-overflow_add-i
-in_way-overflow_add-i t c = omega (arith, c.operand_count-n.ensures.1)
-
-pub in_way-loop-i-smaller : goal.in_way-loop-i-smaller
-in_way-loop-i-smaller t c = omega arith
+pub in_way-returns-then-too_large : goal.in_way-returns-then-too_large
+in_way-returns-then-too_large t c =
+    parts_found _ _ c.requires.0 _ _ _ c.requires.1 _ c.loop-i.invariant (omega (arith, c.operand_count-n.ensures.0)) _ _ c.kind-k.ensures.0 c.operand_count-n.ensures.0 _ c.piece-a.ensures _ c.operand-q.ensures.0 _ c.too_large.ensures c.if-too_large.true
 
 pub in_way-loop-i-preserved : goal.in_way-loop-i-preserved
 in_way-loop-i-preserved t c =
     elim c.if-split.branch [
-      | in_way-then-split+else-wide w ↦ parts_next _ _ _ c.requires.0 _ _ _ c.requires.1 _ c.loop-i.invariant (omega (arith, c.operand_count-n.ensures.0)) _ _ c.kind-k.ensures.0 c.operand_count-n.ensures.0 _ w.piece-a.ensures _ c.operand-q.ensures.0 _ w.too_large-wide.ensures w.if-wide.false
-      | in_way-else-split w ↦ parts_past _ _ _ c.requires.0 _ _ _ c.requires.1 _ c.loop-i.invariant (omega (arith, c.operand_count-n.ensures.0)) _ c.operand-q.ensures.0 _ c.has_split-split.ensures w.if-split.false
+      | in_way-then-split+else-too_large w ↦ parts_next _ _ c.requires.0 _ _ _ c.requires.1 _ c.loop-i.invariant (omega (arith, c.operand_count-n.ensures.0)) _ _ c.kind-k.ensures.0 c.operand_count-n.ensures.0 _ w.piece-a.ensures _ c.operand-q.ensures.0 _ w.too_large.ensures w.if-too_large.false
+      | in_way-else-split w ↦ parts_past _ _ c.requires.0 _ _ _ c.requires.1 _ c.loop-i.invariant (omega (arith, c.operand_count-n.ensures.0)) _ c.operand-q.ensures.0 _ c.has_split-split.ensures w.if-split.false
     ]
 
 pub in_way-returns : goal.in_way-returns
 in_way-returns t c =
-    parts_none _ _ _ c.requires.0 _ _ _ c.requires.1 c.loop-i.i c.loop-i.invariant (omega (arith, c.operand_count-n.ensures.0))
+    parts_none _ _ c.requires.0 _ _ _ c.requires.1 c.loop-i.i c.loop-i.invariant (omega (arith, c.operand_count-n.ensures.0))
 
-pub in_ways-is_shallow-easy-requires : goal.in_ways-is_shallow-easy-requires
-in_ways-is_shallow-easy-requires t c = c.requires.0
+pub in_ways-is_shallow-requires : goal.in_ways-is_shallow-requires
+in_ways-is_shallow-requires t c = c.requires.0
 
-pub in_ways-returns-then-easy : goal.in_ways-returns-then-easy
-in_ways-returns-then-easy t c = ways_shallow _ _ _ c.requires.0 _ _ _ c.requires.1 _ c.is_shallow-easy.ensures c.if-easy.true
+pub in_ways-returns-then-is_shallow : goal.in_ways-returns-then-is_shallow
+in_ways-returns-then-is_shallow t c = ways_shallow _ _ c.requires.0 _ _ _ c.requires.1 _ c.is_shallow.ensures c.if-is_shallow.true
 
 pub in_ways-loop-d-init : goal.in_ways-loop-d-init
-in_ways-loop-d-init t c = ways_start _ _ _ c.requires.0 _ _ _ c.requires.1
+in_ways-loop-d-init t c = ways_start _ _ c.requires.0 _ _ _ c.requires.1
 
-pub in_ways-in_way-wide-requires : goal.in_ways-in_way-wide-requires
-in_ways-in_way-wide-requires t c =
-    (omega arith, (c.requires.0, way_held _ _ _ c.requires.0 _ _ _ c.requires.1 _ c.loop-d.invariant (omega arith)))
+pub in_ways-in_way-requires : goal.in_ways-in_way-requires
+in_ways-in_way-requires t c =
+    (omega arith, (c.requires.0, way_held _ _ c.requires.0 _ _ _ c.requires.1 _ c.loop-d.invariant (omega arith)))
 
-pub in_ways-returns-then-wide : goal.in_ways-returns-then-wide
-in_ways-returns-then-wide t c =
-    ways_found _ _ _ c.requires.0 _ _ _ c.requires.1 _ c.loop-d.invariant (omega arith) _ c.in_way-wide.ensures c.if-wide.true
-
-pub in_ways-overflow_add-d : goal.in_ways-overflow_add-d
-in_ways-overflow_add-d t c = omega arith
-
-pub in_ways-loop-d-smaller : goal.in_ways-loop-d-smaller
-in_ways-loop-d-smaller t c = omega arith
+pub in_ways-returns-then-in_way : goal.in_ways-returns-then-in_way
+in_ways-returns-then-in_way t c =
+    ways_found _ _ c.requires.0 _ _ _ c.requires.1 _ c.loop-d.invariant (omega arith) _ c.in_way.ensures c.if-in_way.true
 
 pub in_ways-loop-d-preserved : goal.in_ways-loop-d-preserved
 in_ways-loop-d-preserved t c =
-    ways_next _ _ _ c.requires.0 _ _ _ c.requires.1 _ c.loop-d.invariant (omega arith) _ c.in_way-wide.ensures c.if-wide.false
+    ways_next _ _ c.requires.0 _ _ _ c.requires.1 _ c.loop-d.invariant (omega arith) _ c.in_way.ensures c.if-in_way.false
 
 pub in_ways-returns : goal.in_ways-returns
-in_ways-returns t c = ways_none _ _ _ c.requires.0 _ _ _ c.requires.1 c.loop-d.d c.loop-d.invariant (omega arith)
+in_ways-returns t c = ways_none _ _ c.requires.0 _ _ _ c.requires.1 c.loop-d.d c.loop-d.invariant (omega arith)
 
 pub too_large-kind-k-requires : goal.too_large-kind-k-requires
 too_large-kind-k-requires t c = c.requires.0.here
@@ -90,27 +79,27 @@ too_large-is_composed-requires t c = c.kind-k.ensures.1
 
 pub too_large-returns-then-not-is_composed : goal.too_large-returns-then-not-is_composed
 too_large-returns-then-not-is_composed t c =
-    wide_leaf _ _ _ c.requires.0 _ _ (composed_told c.kind-k.ensures.0 c.is_composed.ensures c.if-not-is_composed.true)
+    wide_leaf _ _ c.requires.0 _ _ (composed_told c.kind-k.ensures.0 c.is_composed.ensures c.if-not-is_composed.true)
 
 pub too_large-operand_count-n-requires : goal.too_large-operand_count-n-requires
 too_large-operand_count-n-requires t c = c.requires.0.here
 
-pub too_large-meet-m-requires : goal.too_large-meet-m-requires
-too_large-meet-m-requires t c =
-    let composed = (composed_told c.kind-k.ensures.0 c.is_composed.ensures c.if-not-is_composed.false) in (ap is_composed c.kind-k.ensures.0 ∙ composed, count_fits _ _ _ c.requires.0 composed _ _ c.kind-k.ensures.0 c.operand_count-n.ensures.0, c.requires.1)
+pub too_large-meet-requires : goal.too_large-meet-requires
+too_large-meet-requires t c =
+    let composed = (composed_told c.kind-k.ensures.0 c.is_composed.ensures c.if-not-is_composed.false) in (ap is_composed c.kind-k.ensures.0 ∙ composed, count_fits _ _ c.requires.0 composed _ _ c.kind-k.ensures.0 c.operand_count-n.ensures.0, c.requires.1)
 
 pub too_large-in_ways-requires : goal.too_large-in_ways-requires
 too_large-in_ways-requires t c =
-    (omega arith, (c.requires.0, ways_held _ _ _ c.requires.0 _ _ (composed_told c.kind-k.ensures.0 c.is_composed.ensures c.if-not-is_composed.false) c.meet-m.result (recast_meets _ _ _ _ c.meet-m.result c.kind-k.ensures.0 c.operand_count-n.ensures.0 c.meet-m.ensures) _ c.in-Ways.is c.requires.1 c.requires.2))
+    (omega arith, (c.requires.0, ways_held _ _ c.requires.0 _ _ (composed_told c.kind-k.ensures.0 c.is_composed.ensures c.if-not-is_composed.false) c.meet.result (recast_meets _ _ _ _ c.meet.result c.kind-k.ensures.0 c.operand_count-n.ensures.0 c.meet.ensures) _ c.in-Ok.is c.requires.1 c.requires.2))
 
-pub too_large-returns-in-Unfit : goal.too_large-returns-in-Unfit
-too_large-returns-in-Unfit t c =
-    wide_unfit _ _ _ c.requires.0 _ _ (composed_told c.kind-k.ensures.0 c.is_composed.ensures c.if-not-is_composed.false) c.meet-m.result (recast_meets _ _ _ _ c.meet-m.result c.kind-k.ensures.0 c.operand_count-n.ensures.0 c.meet-m.ensures) c.in-Unfit.is
+pub too_large-returns-in-Err-Unfit : goal.too_large-returns-in-Err-Unfit
+too_large-returns-in-Err-Unfit t c =
+    wide_unfit _ _ c.requires.0 _ _ (composed_told c.kind-k.ensures.0 c.is_composed.ensures c.if-not-is_composed.false) c.meet.result (recast_meets _ _ _ _ c.meet.result c.kind-k.ensures.0 c.operand_count-n.ensures.0 c.meet.ensures) (c.in-Err-Unfit.is ∙ ap Err c.in-Err-Unfit.field-0-is)
 
-pub too_large-returns-in-Large : goal.too_large-returns-in-Large
-too_large-returns-in-Large t c =
-    wide_large _ _ _ c.requires.0 _ _ (composed_told c.kind-k.ensures.0 c.is_composed.ensures c.if-not-is_composed.false) c.meet-m.result (recast_meets _ _ _ _ c.meet-m.result c.kind-k.ensures.0 c.operand_count-n.ensures.0 c.meet-m.ensures) c.in-Large.is
+pub too_large-returns-in-Err-TooLarge : goal.too_large-returns-in-Err-TooLarge
+too_large-returns-in-Err-TooLarge t c =
+    wide_large _ _ c.requires.0 _ _ (composed_told c.kind-k.ensures.0 c.is_composed.ensures c.if-not-is_composed.false) c.meet.result (recast_meets _ _ _ _ c.meet.result c.kind-k.ensures.0 c.operand_count-n.ensures.0 c.meet.ensures) (c.in-Err-TooLarge.is ∙ ap Err c.in-Err-TooLarge.field-0-is)
 
-pub too_large-returns-in-Ways : goal.too_large-returns-in-Ways
-too_large-returns-in-Ways t c =
-    wide_ways_lem _ _ _ c.requires.0 _ _ (composed_told c.kind-k.ensures.0 c.is_composed.ensures c.if-not-is_composed.false) c.meet-m.result (recast_meets _ _ _ _ c.meet-m.result c.kind-k.ensures.0 c.operand_count-n.ensures.0 c.meet-m.ensures) _ c.in-Ways.is _ c.in_ways.ensures
+pub too_large-returns-in-Ok : goal.too_large-returns-in-Ok
+too_large-returns-in-Ok t c =
+    wide_ways_lem _ _ c.requires.0 _ _ (composed_told c.kind-k.ensures.0 c.is_composed.ensures c.if-not-is_composed.false) c.meet.result (recast_meets _ _ _ _ c.meet.result c.kind-k.ensures.0 c.operand_count-n.ensures.0 c.meet.ensures) _ c.in-Ok.is _ c.in_ways.ensures

@@ -1,4 +1,4 @@
-use Prim.Native.Nat.{◌*◌, ◌+◌, ◌-◌}
+use Prim.Native.Nat.{◌*◌, ◌+◌}
 use Rattle.splitting.proofs.Telling.{PartsLeft, WaysLeft}
 use Rattle.splitting.proofs.+in_way_in_ways_too_large.Given as goal
 
@@ -12,13 +12,7 @@ abbrev pub decreases-too_large : goal.decreases-too_large
 decreases-too_large l = 3 * l.p + 2
 
 abbrev pub invariant-in_way-loop-i : goal.invariant-in_way-loop-i
-invariant-in_way-loop-i l = PartsLeft l.table l.p l.s l.part l.d l.i
-
-abbrev pub decreases-in_way-loop-i : goal.decreases-in_way-loop-i
-decreases-in_way-loop-i l = l.n - l.i
+invariant-in_way-loop-i l = PartsLeft l.sheet l.p l.s l.part l.d l.i
 
 abbrev pub invariant-in_ways-loop-d : goal.invariant-in_ways-loop-d
-invariant-in_ways-loop-d l = WaysLeft l.table l.p l.s l.part l.d
-
-abbrev pub decreases-in_ways-loop-d : goal.decreases-in_ways-loop-d
-decreases-in_ways-loop-d l = l.w - l.d
+invariant-in_ways-loop-d l = WaysLeft l.sheet l.p l.s l.part l.d

@@ -32,12 +32,6 @@ put_row-requires c = put_asked _ _ _ _ _ c.requires _ _ _ c.loop-j.invariant (om
 pub overflow_add-out-in-loop-j : goal.overflow_add-out-in-loop-j
 overflow_add-out-in-loop-j c = omega (arith, c.loop-j.invariant.inside, c.requires.room, c.requires.short, c.requires.narrow)
 
-pub overflow_add-j : goal.overflow_add-j
-overflow_add-j c = omega (arith, c.requires.few)
-
-pub loop-j-smaller : goal.loop-j-smaller
-loop-j-smaller c = omega arith
-
 pub loop-j-preserved : goal.loop-j-preserved
 loop-j-preserved c =
     fill_more _ _ _ _ _ c.requires _ _ _ c.loop-j.invariant (omega arith) (omega arith) _ c.put_row.ensures

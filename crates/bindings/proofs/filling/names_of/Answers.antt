@@ -28,15 +28,9 @@ overflow_add-mask c = omega (arith, names_low _ (row_length _ _ c.requires) _ _ 
 pub overflow_add-width : goal.overflow_add-width
 overflow_add-width c = omega (arith, c.loop-x.invariant.narrow)
 
-pub loop-x-smaller-then-rows-r-ne0 : goal.loop-x-smaller-then-rows-r-ne0
-loop-x-smaller-then-rows-r-ne0 c = omega arith
-
 pub loop-x-preserved-then-rows-r-ne0 : goal.loop-x-preserved-then-rows-r-ne0
 loop-x-preserved-then-rows-r-ne0 c =
     names_some (row_words c.args.rows.now c.args.r) (row_length _ _ c.requires) _ _ _ c.loop-x.invariant _ (omega arith) (λ z. c.if-rows-r-ne0.true (sym (row_at _ _ c.requires _ (omega (arith, c.loop-x.invariant.within))) ∙ z))
-
-pub loop-x-smaller : goal.loop-x-smaller
-loop-x-smaller c = omega arith
 
 pub loop-x-preserved : goal.loop-x-preserved
 loop-x-preserved c =

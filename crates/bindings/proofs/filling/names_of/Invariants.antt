@@ -4,6 +4,3 @@ use Rattle.bindings.proofs.filling.names_of.Given as goal
 
 abbrev pub invariant-loop-x : goal.invariant-loop-x
 invariant-loop-x l = NamesSoFar (row_words l.rows l.r) l.x l.mask l.width
-
-abbrev pub decreases-loop-x : goal.decreases-loop-x
-decreases-loop-x l = l.x

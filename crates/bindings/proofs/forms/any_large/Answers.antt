@@ -13,13 +13,13 @@ pub whole_at-member-requires : goal.whole_at-member-requires
 whole_at-member-requires c =
     let h = passing_holds _ _ _ _ _ _ c.loop-at.invariant c.requires.holds_items.0 (omega arith) in omega (arith, h.whole, c.requires.holds_items.1)
 
-pub too_large-large-requires : goal.too_large-large-requires
-too_large-large-requires c =
+pub too_large-requires : goal.too_large-requires
+too_large-requires c =
     let h = passing_holds _ _ _ _ _ _ c.loop-at.invariant c.requires.holds_items.0 (omega arith) in (c.requires.readable, whole_here c.whole_at-member.ensures h, c.requires.holds_items.1)
 
-pub returns-then-large : goal.returns-then-large
-returns-then-large c =
-    one_large _ _ _ _ _ _ c.loop-at.invariant (omega arith) _ (rw c.whole_at-member.ensures at c.too_large-large.ensures) c.if-large.true
+pub returns-then-too_large : goal.returns-then-too_large
+returns-then-too_large c =
+    one_large _ _ _ _ _ _ c.loop-at.invariant (omega arith) _ (rw c.whole_at-member.ensures at c.too_large.ensures) c.if-too_large.true
 
 pub overflow_add-at : goal.overflow_add-at
 overflow_add-at c =
@@ -31,7 +31,7 @@ loop-at-smaller c = omega (arith, c.length_of-n.ensures.low)
 
 pub loop-at-preserved : goal.loop-at-preserved
 loop-at-preserved c =
-    passing_more _ _ _ _ _ _ c.loop-at.invariant (omega arith) _ (rw c.whole_at-member.ensures at c.too_large-large.ensures) c.if-large.false _ c.length_of-n.ensures.is
+    passing_more _ _ _ _ _ _ c.loop-at.invariant (omega arith) _ (rw c.whole_at-member.ensures at c.too_large.ensures) c.if-too_large.false _ c.length_of-n.ensures.is
 
 pub returns : goal.returns
 returns c = none_large _ _ _ _ _ _ c.loop-at.invariant (omega arith)

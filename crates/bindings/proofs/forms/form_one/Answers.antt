@@ -4,19 +4,19 @@ use native.Mathlib.Omega.{arith}
 use Rattle.bindings.proofs.forms.form_one.Goals as goal
 
 pub overflow_cast-agenda : goal.overflow_cast-agenda
-overflow_cast-agenda c = omega (arith, c.requires.readable.here.within, c.requires.readable.fine.few)
+overflow_cast-agenda c = omega (arith, c.requires.readable.here, c.requires.readable.fine.few)
 
 pub overflow_mul-agenda : goal.overflow_mul-agenda
-overflow_mul-agenda c = omega (arith, at_low _ _ _ _ _ _ _ _ _ c.requires)
+overflow_mul-agenda c = omega (arith, at_low _ _ _ _ _ _ _ _ c.requires)
 
 pub overflow_add-agenda : goal.overflow_add-agenda
-overflow_add-agenda c = omega (arith, at_low _ _ _ _ _ _ _ _ _ c.requires)
+overflow_add-agenda c = omega (arith, at_low _ _ _ _ _ _ _ _ c.requires)
 
 pub overflow_cast-agenda-2 : goal.overflow_cast-agenda-2
-overflow_cast-agenda-2 c = omega (arith, at_low _ _ _ _ _ _ _ _ _ c.requires)
+overflow_cast-agenda-2 c = omega (arith, at_low _ _ _ _ _ _ _ _ c.requires)
 
 pub solve-requires : goal.solve-requires
-solve-requires c = one_asked _ _ _ _ _ _ _ _ _ c.requires _ nothing_stands
+solve-requires c = one_asked _ _ _ _ _ _ _ _ c.requires _ nothing_stands
 
 pub returns : goal.returns
-returns c = one_formed _ _ _ _ _ _ _ _ _ c.requires _ nothing_stands _ _ _ _ c.solve.ensures
+returns c = one_formed _ _ _ _ _ _ _ _ c.requires _ nothing_stands _ _ _ _ c.solve.ensures

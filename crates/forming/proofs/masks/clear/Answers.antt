@@ -12,12 +12,6 @@ offset_bounds-found-x c = omega arith
 pub bounds-found-x : goal.bounds-found-x
 bounds-found-x c = omega (arith, c.loop-x.invariant.long, c.requires)
 
-pub overflow_add-x : goal.overflow_add-x
-overflow_add-x c = omega arith
-
-pub loop-x-smaller : goal.loop-x-smaller
-loop-x-smaller c = omega arith
-
 pub loop-x-preserved : goal.loop-x-preserved
 loop-x-preserved c =
     elim c.if-left-eq0.branch [

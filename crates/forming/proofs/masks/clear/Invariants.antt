@@ -1,9 +1,5 @@
-use Prim.Native.Nat.{◌-◌}
 use Rattle.forming.proofs.Framing.{ClearedTo}
 use Rattle.forming.proofs.masks.clear.Given as goal
 
 abbrev pub invariant-loop-x : goal.invariant-loop-x
 invariant-loop-x l = ClearedTo l.initial.found l.mask l.found l.left l.x
-
-abbrev pub decreases-loop-x : goal.decreases-loop-x
-decreases-loop-x l = 16 - l.x

@@ -3,6 +3,3 @@ use Rattle.forming.proofs.masks.mask_of.Given as goal
 
 abbrev pub invariant-loop-x : goal.invariant-loop-x
 invariant-loop-x l = MaskFrom l.found l.mask l.x
-
-abbrev pub decreases-loop-x : goal.decreases-loop-x
-decreases-loop-x l = l.x

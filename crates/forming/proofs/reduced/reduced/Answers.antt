@@ -15,7 +15,7 @@ pub loop-q-smaller : goal.loop-q-smaller
 loop-q-smaller c = omega arith
 
 pub loop-q-preserved : goal.loop-q-preserved
-loop-q-preserved c = reduced_then _ _ _ _ _ c.loop-q.invariant c.less_spare-q-in-loop-q.ensures
+loop-q-preserved c = reduced_then _ _ _ _ c.loop-q.invariant c.less_spare-q-in-loop-q.ensures
 
 pub returns : goal.returns
 returns c = c.loop-q.invariant

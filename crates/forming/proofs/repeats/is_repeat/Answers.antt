@@ -10,7 +10,7 @@ use Rattle.forming.specs.Settled.{Settled}
 use Rattle.forming.proofs.repeats.is_repeat.Goals as goal
 
 pub overflow_cast-p : goal.overflow_cast-p
-overflow_cast-p c = let r = c.requires.waits in omega (arith, r.here.within, r.fine.few)
+overflow_cast-p c = let r = c.requires.waits in omega (arith, r.here, r.fine.few)
 
 pub kind-k-requires : goal.kind-k-requires
 kind-k-requires c = c.requires.waits.here
@@ -21,27 +21,18 @@ returns-then-not-splits c = λ e. true_false (sym e)
 pub returns-then-depth-j : goal.returns-then-depth-j
 returns-then-depth-j c = λ e. true_false (sym e)
 
-pub returns-then-f : goal.returns-then-f
-returns-then-f c = λ e. true_false (sym e)
-
 pub holds_any-requires : goal.holds_any-requires
 holds_any-requires c =
-    subst (λ (g : Frame). Readable c.args.table.now c.args.index.now g.p) (sym c.load-f.ensures) (c.requires.readable c.lowest_matched-j.result (omega arith))
-
-pub returns-then-not-holds_any : goal.returns-then-not-holds_any
-returns-then-not-holds_any c = λ e. true_false (sym e)
+    subst (λ (g : Frame). Readable c.args.sheet.now g.p) (sym c.load-f.ensures) (c.requires.readable c.lowest_matched-j.result (omega arith))
 
 pub is_settled-requires : goal.is_settled-requires
 is_settled-requires c =
-    subst (λ (g : Frame). Readable c.args.table.now c.args.index.now g.p) (sym c.load-f.ensures) (c.requires.readable c.lowest_matched-j.result (omega arith))
-
-pub returns-then-not-is_settled : goal.returns-then-not-is_settled
-returns-then-not-is_settled c = λ e. true_false (sym e)
+    subst (λ (g : Frame). Readable c.args.sheet.now g.p) (sym c.load-f.ensures) (c.requires.readable c.lowest_matched-j.result (omega arith))
 
 pub some_agrees-requires : goal.some_agrees-requires
 some_agrees-requires c =
     subst (λ (g : Frame). g.seen ≤ 255) (sym c.load-f.ensures) (c.requires.low c.lowest_matched-j.result (omega arith))
 
-pub returns : goal.returns
-returns c =
-    λ e. record { frame = c.lowest_matched-j.result; within = omega arith; settled = subst (λ (g : Frame). Settled (pattern_at (records c.args.table.now) g.p) c.args.found.now) c.load-f.ensures (c.is_settled.ensures.says c.if-not-is_settled.false); row = subst (λ (g : Frame). SomeAgrees c.args.found.now c.args.rows.now g.since g.seen) c.load-f.ensures (c.some_agrees.ensures e) }
+pub returns-then-is_settled : goal.returns-then-is_settled
+returns-then-is_settled c =
+    λ e. record { frame = c.lowest_matched-j.result; within = omega arith; settled = subst (λ (g : Frame). Settled (pattern_at (records c.args.sheet.now) g.p) c.args.found.now) c.load-f.ensures (c.is_settled.ensures.says c.if-is_settled.true); row = subst (λ (g : Frame). SomeAgrees c.args.found.now c.args.rows.now g.since g.seen) c.load-f.ensures (c.some_agrees.ensures e) }

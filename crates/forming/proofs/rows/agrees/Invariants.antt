@@ -1,9 +1,5 @@
-use Prim.Native.Nat.{◌-◌}
 use Rattle.forming.proofs.Repeating.{AgreesTo}
 use Rattle.forming.proofs.rows.agrees.Given as goal
 
 abbrev pub invariant-loop-x : goal.invariant-loop-x
 invariant-loop-x l = AgreesTo l.found l.rows l.r l.x
-
-abbrev pub decreases-loop-x : goal.decreases-loop-x
-decreases-loop-x l = 16 - l.x

@@ -6,18 +6,12 @@ use Rattle.forming.proofs.rows.some_agrees.Goals as goal
 pub loop-r-init : goal.loop-r-init
 loop-r-init c = omega arith
 
-pub agrees-same-requires : goal.agrees-same-requires
-agrees-same-requires c = omega (arith, c.requires)
+pub agrees-requires : goal.agrees-requires
+agrees-requires c = omega (arith, c.requires)
 
-pub returns-then-same : goal.returns-then-same
-returns-then-same c =
-    λ e. record { row = c.loop-r.r; low = c.loop-r.invariant; high = omega arith; agrees = c.agrees-same.ensures c.if-same.true }
-
-pub overflow_add-r : goal.overflow_add-r
-overflow_add-r c = omega (arith, c.requires)
-
-pub loop-r-smaller : goal.loop-r-smaller
-loop-r-smaller c = omega arith
+pub returns-then-agrees : goal.returns-then-agrees
+returns-then-agrees c =
+    λ e. record { row = c.loop-r.r; low = c.loop-r.invariant; high = omega arith; agrees = c.agrees.ensures c.if-agrees.true }
 
 pub loop-r-preserved : goal.loop-r-preserved
 loop-r-preserved c = omega (arith, c.loop-r.invariant)

@@ -1,4 +1,3 @@
-use Prim.Native.Nat.{◌-◌}
 use Rattle.forming.proofs.Settling.{SettledTo}
 use Rattle.forming.proofs.settled.+is_settled.Given as goal
 
@@ -6,7 +5,4 @@ abbrev pub decreases-is_settled : goal.decreases-is_settled
 decreases-is_settled l = l.p
 
 abbrev pub invariant-loop-i : goal.invariant-loop-i
-invariant-loop-i l = SettledTo l.table l.p l.found l.i
-
-abbrev pub decreases-loop-i : goal.decreases-loop-i
-decreases-loop-i l = l.n - l.i
+invariant-loop-i l = SettledTo l.sheet l.p l.found l.i

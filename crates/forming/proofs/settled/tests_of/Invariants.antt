@@ -3,6 +3,3 @@ use Rattle.forming.proofs.settled.tests_of.Given as goal
 
 abbrev pub invariant-loop-i : goal.invariant-loop-i
 invariant-loop-i l = ToldSoFar l.initial.i l.tests l.i
-
-abbrev pub decreases-loop-i : goal.decreases-loop-i
-decreases-loop-i l = l.i

@@ -31,13 +31,13 @@ pub returns-then-count-n : goal.returns-then-count-n
 returns-then-count-n c =
     count_unfit c.args.kind c.args.n _ _ _ c.kind_of_part-k.ensures (c.if-k-c.false ∙ c.collection_of-c.ensures) _ c.count_of_part-count.ensures (each_kind c.args.kind (sym c.is_split.ensures ∙ c.if-is_split.false) c.if-kind-eq-CONCATENATION_PATTERN.false) c.if-count-n.true
 
-pub orders-m-requires : goal.orders-m-requires
-orders-m-requires c =
+pub orders-requires : goal.orders-requires
+orders-requires c =
     four_units (collection_of c.args.kind) _ _ (omega (arith, c.requires.1, c.if-count-n.false)) (c.width-w.ensures.0 (collection_of c.args.kind) (c.if-k-c.false ∙ c.collection_of-c.ensures))
 
 pub returns-then-is_paired : goal.returns-then-is_paired
 returns-then-is_paired c =
-    by_orders c.args.kind c.args.n _ _ _ c.kind_of_part-k.ensures (c.if-k-c.false ∙ c.collection_of-c.ensures) _ c.count_of_part-count.ensures _ (units_are c.args.kind c.args.n _ _ _ c.kind_of_part-k.ensures (c.if-k-c.false ∙ c.collection_of-c.ensures) _ c.count_of_part-count.ensures _ c.width-w.ensures.0) (sym c.is_paired.ensures ∙ c.if-is_paired.true) c.if-count-n.false _ c.orders-m.ensures
+    by_orders c.args.kind c.args.n _ _ _ c.kind_of_part-k.ensures (c.if-k-c.false ∙ c.collection_of-c.ensures) _ c.count_of_part-count.ensures _ (units_are c.args.kind c.args.n _ _ _ c.kind_of_part-k.ensures (c.if-k-c.false ∙ c.collection_of-c.ensures) _ c.count_of_part-count.ensures _ c.width-w.ensures.0) (sym c.is_paired.ensures ∙ c.if-is_paired.true) c.if-count-n.false _ c.orders.ensures
 
 pub returns : goal.returns
 returns c =

@@ -9,8 +9,8 @@ pub returns-then-units-lt2 : goal.returns-then-units-lt2
 returns-then-units-lt2 c = c.if-units-lt2.true
 
 pub overflow_sub-result : goal.overflow_sub-result
-overflow_sub-result c = omega (arith, full_splits _ _ (omega arith) c.full-m.ensures)
+overflow_sub-result c = omega (arith, full_splits _ _ (omega arith) c.full.ensures)
 
 pub returns : goal.returns
 returns c =
-    (omega arith, omega arith, omega (arith, c.full-m.ensures.power, full_splits _ _ (omega arith) c.full-m.ensures))
+    (omega arith, omega arith, omega (arith, c.full.ensures.power, full_splits _ _ (omega arith) c.full.ensures))

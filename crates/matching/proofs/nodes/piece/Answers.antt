@@ -2,7 +2,7 @@ use mathlib.Core.Path.{sym, ◌∙◌}
 use native.Mathlib.Omega.{arith}
 use Rattle.patterns.specs.Nodes.{collection_of}
 use Rattle.matching.proofs.Counting.{each_kind, ordered_kind}
-use Rattle.matching.proofs.Piecing.{next_low, split_held, split_meets, cut_held, cut_meets, order_low, item_small, paired_held, paired_is, one_held, one_is}
+use Rattle.matching.proofs.Piecing.{held, half_meets, next_low, split_held, split_meets, cut_held, cut_meets, order_low, item_small, paired_held, paired_is, one_held, one_is}
 use Rattle.matching.proofs.nodes.piece.Goals as goal
 
 pub overflow_add-d : goal.overflow_add-d
@@ -12,24 +12,19 @@ overflow_add-d c =
 pub split_part-h-requires : goal.split_part-h-requires
 split_part-h-requires c = split_held c.args.kind _ _ _ _ _ c.requires (sym c.is_split.ensures ∙ c.if-is_split.true)
 
-pub returns-then-i-eq0 : goal.returns-then-i-eq0
-returns-then-i-eq0 c =
-    (split_meets c.args.kind _ _ _ _ _ c.requires (sym c.is_split.ensures ∙ c.if-is_split.true) _ c.split_part-h.ensures).0 c.if-i-eq0.true
-
 pub returns-then-is_split : goal.returns-then-is_split
 returns-then-is_split c =
-    (split_meets c.args.kind _ _ _ _ _ c.requires (sym c.is_split.ensures ∙ c.if-is_split.true) _ c.split_part-h.ensures).1 c.if-i-eq0.false
+    rw c.half.ensures (half_meets c.args.kind _ _ _ _ _ c.requires _ (split_meets c.args.kind _ _ _ _ _ c.requires (sym c.is_split.ensures ∙ c.if-is_split.true) _ c.split_part-h.ensures))
 
 pub cut_part-h-requires : goal.cut_part-h-requires
 cut_part-h-requires c = cut_held c.args.kind _ _ _ _ _ c.requires c.if-kind-eq-CONCATENATION_PATTERN.true
 
-pub returns-then-i-eq0-2 : goal.returns-then-i-eq0-2
-returns-then-i-eq0-2 c =
-    (cut_meets c.args.kind _ _ _ _ _ c.requires c.if-kind-eq-CONCATENATION_PATTERN.true _ c.cut_part-h.ensures).0 c.if-i-eq0-2.true
-
 pub returns-then-kind-eq-CONCATENATION_PATTERN : goal.returns-then-kind-eq-CONCATENATION_PATTERN
 returns-then-kind-eq-CONCATENATION_PATTERN c =
-    (cut_meets c.args.kind _ _ _ _ _ c.requires c.if-kind-eq-CONCATENATION_PATTERN.true _ c.cut_part-h.ensures).1 c.if-i-eq0-2.false
+    rw c.half-then-kind-eq-CONCATENATION_PATTERN.ensures (half_meets c.args.kind _ _ _ _ _ c.requires _ (cut_meets c.args.kind _ _ _ _ _ c.requires c.if-kind-eq-CONCATENATION_PATTERN.true _ c.cut_part-h.ensures))
+
+pub run_of-all-requires : goal.run_of-all-requires
+run_of-all-requires c = held c.args.kind _ _ _ _ _ c.requires
 
 pub nonzero_div-n : goal.nonzero_div-n
 nonzero_div-n c = omega (arith, c.width-w.ensures.1)
@@ -40,10 +35,6 @@ nonzero_div-i c = omega (arith, c.width-w.ensures.1)
 pub unit_at-unit-requires : goal.unit_at-unit-requires
 unit_at-unit-requires c =
     order_low c.args.kind _ _ _ _ _ c.requires (sym c.is_paired.ensures ∙ c.if-is_paired.true) _ (c.width-w.ensures.0 (collection_of c.args.kind) c.collection_of-c.ensures)
-
-pub run_of-all-requires : goal.run_of-all-requires
-run_of-all-requires c =
-    let h = paired_held c.args.kind _ _ _ _ _ c.requires (sym c.is_paired.ensures ∙ c.if-is_paired.true) _ (c.width-w.ensures.0 (collection_of c.args.kind) c.collection_of-c.ensures) _ c.unit_at-unit.ensures in record { kind = h.kind; items = h.items; here = h.here }
 
 pub overflow_mul-w : goal.overflow_mul-w
 overflow_mul-w c =
@@ -64,14 +55,10 @@ pub returns-then-is_paired : goal.returns-then-is_paired
 returns-then-is_paired c =
     paired_is c.args.kind _ _ _ _ _ c.requires (sym c.is_paired.ensures ∙ c.if-is_paired.true) _ (c.width-w.ensures.0 (collection_of c.args.kind) c.collection_of-c.ensures) _ c.unit_at-unit.ensures _ (c.item_of_run.ensures _ (paired_held c.args.kind _ _ _ _ _ c.requires (sym c.is_paired.ensures ∙ c.if-is_paired.true) _ (c.width-w.ensures.0 (collection_of c.args.kind) c.collection_of-c.ensures) _ c.unit_at-unit.ensures) c.run_of-all.ensures)
 
-pub run_of-all-requires-2 : goal.run_of-all-requires-2
-run_of-all-requires-2 c =
-    let h = one_held c.args.kind _ _ _ _ _ c.requires (each_kind c.args.kind (sym c.is_split.ensures ∙ c.if-is_split.false) c.if-kind-eq-CONCATENATION_PATTERN.false) (ordered_kind c.args.kind (sym c.is_split.ensures ∙ c.if-is_split.false) (sym c.is_paired.ensures ∙ c.if-is_paired.false)) in record { kind = h.kind; items = h.items; here = h.here }
-
 pub item_of_run-requires-2 : goal.item_of_run-requires-2
 item_of_run-requires-2 c =
-    record { part = _; held = one_held c.args.kind _ _ _ _ _ c.requires (each_kind c.args.kind (sym c.is_split.ensures ∙ c.if-is_split.false) c.if-kind-eq-CONCATENATION_PATTERN.false) (ordered_kind c.args.kind (sym c.is_split.ensures ∙ c.if-is_split.false) (sym c.is_paired.ensures ∙ c.if-is_paired.false)); run = c.run_of-all-2.ensures }
+    record { part = _; held = one_held c.args.kind _ _ _ _ _ c.requires (each_kind c.args.kind (sym c.is_split.ensures ∙ c.if-is_split.false) c.if-kind-eq-CONCATENATION_PATTERN.false) (ordered_kind c.args.kind (sym c.is_split.ensures ∙ c.if-is_split.false) (sym c.is_paired.ensures ∙ c.if-is_paired.false)); run = c.run_of-all.ensures }
 
 pub returns : goal.returns
 returns c =
-    one_is c.args.kind _ _ _ _ _ c.requires (each_kind c.args.kind (sym c.is_split.ensures ∙ c.if-is_split.false) c.if-kind-eq-CONCATENATION_PATTERN.false) (ordered_kind c.args.kind (sym c.is_split.ensures ∙ c.if-is_split.false) (sym c.is_paired.ensures ∙ c.if-is_paired.false)) _ (c.item_of_run-2.ensures _ (one_held c.args.kind _ _ _ _ _ c.requires (each_kind c.args.kind (sym c.is_split.ensures ∙ c.if-is_split.false) c.if-kind-eq-CONCATENATION_PATTERN.false) (ordered_kind c.args.kind (sym c.is_split.ensures ∙ c.if-is_split.false) (sym c.is_paired.ensures ∙ c.if-is_paired.false))) c.run_of-all-2.ensures)
+    one_is c.args.kind _ _ _ _ _ c.requires (each_kind c.args.kind (sym c.is_split.ensures ∙ c.if-is_split.false) c.if-kind-eq-CONCATENATION_PATTERN.false) (ordered_kind c.args.kind (sym c.is_split.ensures ∙ c.if-is_split.false) (sym c.is_paired.ensures ∙ c.if-is_paired.false)) _ (c.item_of_run-2.ensures _ (one_held c.args.kind _ _ _ _ _ c.requires (each_kind c.args.kind (sym c.is_split.ensures ∙ c.if-is_split.false) c.if-kind-eq-CONCATENATION_PATTERN.false) (ordered_kind c.args.kind (sym c.is_split.ensures ∙ c.if-is_split.false) (sym c.is_paired.ensures ∙ c.if-is_paired.false))) c.run_of-all.ensures)

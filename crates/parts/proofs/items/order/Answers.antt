@@ -42,7 +42,7 @@ compare-o-requires c =
 
 pub returns-in_default : goal.returns-in_default
 returns-in_default c =
-    choices_settled c.loop-m.invariant c.loop-m-test.true c.if-n-eq0.false (omega (arith, c.if-m-eq0.false)) (omega (arith, c.if-n-eq0-2.false)) _ c.compare-o.ensures c.in_default.not-Same
+    choices_settled c.loop-m.invariant c.loop-m-test.true c.if-n-eq0.false (omega (arith, c.if-m-eq0.false)) (omega (arith, c.if-n-eq0-2.false)) _ c.compare-o.ensures c.in_default.not-Equal
 
 pub length_of-k-requires : goal.length_of-k-requires
 length_of-k-requires c = choice_first (choices_held c.loop-m.invariant c.requires.0 c.requires.1).0 c.loop-m-test.true
@@ -53,14 +53,14 @@ overflow_add-i-in-loop-m c =
 
 pub overflow_add-j-in-loop-m : goal.overflow_add-j-in-loop-m
 overflow_add-j-in-loop-m c =
-    let x = choices_held c.loop-m.invariant c.requires.0 c.requires.1 in let h = choice_first x.1 c.if-n-eq0.false in omega (arith, h.whole, c.length_of-k.ensures.is, same_size c.loop-m.invariant c.loop-m-test.true c.if-n-eq0.false (omega (arith, c.if-m-eq0.false)) (omega (arith, c.if-n-eq0-2.false)) _ c.compare-o.ensures c.in-Same.is x.0 x.1)
+    let x = choices_held c.loop-m.invariant c.requires.0 c.requires.1 in let h = choice_first x.1 c.if-n-eq0.false in omega (arith, h.whole, c.length_of-k.ensures.is, same_size c.loop-m.invariant c.loop-m-test.true c.if-n-eq0.false (omega (arith, c.if-m-eq0.false)) (omega (arith, c.if-n-eq0-2.false)) _ c.compare-o.ensures c.in-Equal.is x.0 x.1)
 
 pub loop-m-smaller : goal.loop-m-smaller
 loop-m-smaller c = omega (arith, c.loop-m-test.true, c.if-n-eq0.false)
 
 pub loop-m-preserved : goal.loop-m-preserved
 loop-m-preserved c =
-    choices_more c.loop-m.invariant c.loop-m-test.true c.if-n-eq0.false (omega (arith, c.if-m-eq0.false)) (omega (arith, c.if-n-eq0-2.false)) _ c.compare-o.ensures c.in-Same.is _ c.length_of-k.ensures.is
+    choices_more c.loop-m.invariant c.loop-m-test.true c.if-n-eq0.false (omega (arith, c.if-m-eq0.false)) (omega (arith, c.if-n-eq0-2.false)) _ c.compare-o.ensures c.in-Equal.is _ c.length_of-k.ensures.is
 
 pub returns-then-n-eq0-3 : goal.returns-then-n-eq0-3
 returns-then-n-eq0-3 c = choices_same c.loop-m.invariant c.loop-m-test.false c.if-n-eq0-3.true

@@ -1,5 +1,8 @@
 -- `order`: past the bits that are equal, one has the lowest bit.
-use mathlib.Core.Path.{◌≡◌, refl}
+use mathlib.Core.Bool.{true, false}
+use mathlib.Core.Path.{◌≡◌, refl, sym}
+use borrow.Author.Tests.{eq-eqb, ne_eqb}
+use Rattle.std.specs.declared.cmp.Ordering.TheVariants.{Less, Greater}
 use Prim.Native.Nat.{ℕ}
 use lib.Bits.{bit_xor}
 use mir.Syntax.{w64}
@@ -35,6 +38,12 @@ pub returns-then-y-eq0 : goal.returns-then-y-eq0
 returns-then-y-eq0 c =
     masks_some _ _ _ _ (bits c.args.a c.args.b c.ranges.a c.ranges.b c.if-a-b.false).left c.if-x-eq0.false c.if-y-eq0.true
 
-pub returns : goal.returns
-returns c =
-    let e = (bits c.args.a c.args.b c.ranges.a c.ranges.b c.if-a-b.false) in masks_first _ _ _ _ e.left c.if-x-eq0.false c.if-y-eq0.false e.differ _ refl _ c.first.ensures
+pub returns-then-x-eq1 : goal.returns-then-x-eq1
+returns-then-x-eq1 c =
+    let e = bits c.args.a c.args.b c.ranges.a c.ranges.b c.if-a-b.false in
+    masks_first _ _ _ _ e.left c.if-x-eq0.false c.if-y-eq0.false e.differ true (sym (eq-eqb _ 1 c.if-x-eq1.true)) Less refl
+
+pub returns-else-x-eq1 : goal.returns-else-x-eq1
+returns-else-x-eq1 c =
+    let e = bits c.args.a c.args.b c.ranges.a c.ranges.b c.if-a-b.false in
+    masks_first _ _ _ _ e.left c.if-x-eq0.false c.if-y-eq0.false e.differ false (sym (ne_eqb _ 1 c.if-x-eq1.false)) Greater refl

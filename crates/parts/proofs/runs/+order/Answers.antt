@@ -2,7 +2,7 @@
 use native.Mathlib.Omega.{arith}
 use Rattle.values.proofs.Records.{holds}
 use Rattle.parts.proofs.Running.{run_head, more_held}
-use Rattle.parts.proofs.Comparing.{apart, both_end, first_end, second_end, first_lower, first_higher, first-same, rest_held}
+use Rattle.parts.proofs.Comparing.{apart, both_end, first_end, second_end, first_settled, first-same, rest_held}
 use Rattle.parts.proofs.runs.+order.Goals as goal
 
 pub returns-then-b : goal.returns-then-b
@@ -32,12 +32,9 @@ order-requires t c =
     let z = c.decreases in
     (omega arith, (rest_held c.if-a.false c.requires.0 c.rest-x.ensures, rest_held c.if-b-2.false c.requires.1 c.rest-y.ensures))
 
-pub returns-in-Lower : goal.returns-in-Lower
-returns-in-Lower t c = first_lower c.if-a.false c.if-b-2.false c.compare-first.ensures c.in-Lower.is
+pub returns-in_default : goal.returns-in_default
+returns-in_default t c = first_settled c.if-a.false c.if-b-2.false c.compare-first.ensures c.in_default.not-Equal
 
-pub returns-in-Higher : goal.returns-in-Higher
-returns-in-Higher t c = first_higher c.if-a.false c.if-b-2.false c.compare-first.ensures c.in-Higher.is
-
-pub returns-in-Same : goal.returns-in-Same
-returns-in-Same t c =
-    first-same c.if-a.false c.if-b-2.false c.compare-first.ensures _ c.in-Same.is c.rest-x.ensures c.rest-y.ensures c.order.ensures
+pub returns : goal.returns
+returns t c =
+    first-same c.if-a.false c.if-b-2.false c.compare-first.ensures _ c.in-Equal.is c.rest-x.ensures c.rest-y.ensures c.order.ensures

@@ -10,12 +10,6 @@ pub rest-r-requires : goal.rest-r-requires
 rest-r-requires c =
     more_held (passing_less c.loop-i.invariant c.loop-i-test.true) (passed_held c.loop-i.invariant.passed)
 
-pub overflow_add-i : goal.overflow_add-i
-overflow_add-i c = omega arith
-
-pub loop-i-smaller : goal.loop-i-smaller
-loop-i-smaller c = omega arith
-
 pub loop-i-preserved : goal.loop-i-preserved
 loop-i-preserved c = passing_more c.loop-i.invariant c.loop-i-test.true c.rest-r.ensures
 
