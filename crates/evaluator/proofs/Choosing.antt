@@ -7,34 +7,35 @@ use native.Mathlib.Omega.{arith}
 use lib.Dec.{ltb, leb}
 use lib.ListN.{length, get_or}
 use Rattle.prelude.proofs.Absurd.{impossible}
+use Rattle.std.specs.Prelude.{Ok, Err}
+use Rattle.prelude.specs.declared.Refusal.{Refusal}
+use Rattle.prelude.specs.declared.Refusal.TheVariants.{TooManyChoices, EntryTooHigh}
+use Rattle.prelude.specs.Refusals.{number_of}
 use Rattle.choices.specs.State.{Choices, Picked, view, answer_left, Chosen}
-use Rattle.choices.specs.declared.Answer.{Answer}
-use Rattle.choices.specs.declared.Answer.TheVariants.{Taken, Many, Short, Beyond}
 use Rattle.choices.specs.Tree.{Tree, give, stop, choose, bind, most_choices, Final, refuses}
-use Rattle.choices.specs.Runs.{Came}
-use Rattle.choices.proofs.Came.{came_taken, came_many, came_short, came_beyond}
+use Rattle.choices.specs.Runs.{Came, ways_reported}
+use Rattle.choices.proofs.Came.{came_taken, came_refused}
 use Rattle.patterns.specs.Binding.{Binding, nothing}
 use Rattle.meaning.specs.Meaning.{chosen_binding as chosen, matched, satisfied}
 use Rattle.lists.specs.Choosing.{first, due_in}
-use Rattle.evaluator.specs.Binding.{answer_number, answer_count, IsTaken}
 
 -- ---- what is chosen
 
-pick_due : (b : Bool) (c i : ℕ) → cond b (Taken c) Beyond ≡ Taken i → i ≡ c
+pick_due : (b : Bool) (c i : ℕ) → cond b (Ok c) (Err EntryTooHigh) ≡ Ok i → i ≡ c
 pick_due true c i h = cc
 pick_due false c i h = impossible cc
 
-left_due : (l : List ℕ) (g : Bool) (n i : ℕ) → answer_left l g n ≡ Taken i → i ≡ first l
+left_due : (l : List ℕ) (g : Bool) (n i : ℕ) → answer_left l g n ≡ Ok i → i ≡ first l
 left_due [] true n i e = cc
 left_due [] false n i e = impossible cc
 left_due (c ∷ l) g n i e = pick_due (ltb c n) c i e
 
-answer_due : (b : Bool) (l : List ℕ) (g : Bool) (n i : ℕ) → cond b Many (answer_left l g n) ≡ Taken i → i ≡ first l
+answer_due : (b : Bool) (l : List ℕ) (g : Bool) (n i : ℕ) → cond b (Err TooManyChoices) (answer_left l g n) ≡ Ok i → i ≡ first l
 answer_due true l g n i e = impossible cc
 answer_due false l g n i e = left_due l g n i e
 
 -- A choice takes the entry that was due.
-pub chosen_due : (c : Choices) (n i : ℕ) (k : Picked) → Chosen c n k → k.answer ≡ Taken i → i ≡ due_in c
+pub chosen_due : (c : Choices) (n i : ℕ) (k : Picked) → Chosen c n k → k.answer ≡ Ok i → i ≡ due_in c
 chosen_due c n i k h e = answer_due (leb most_choices (length (view c).past)) (view c).left (view c).grow n i (sym h.answered ∙ e)
 
 -- ---- the choice made, by its answer
@@ -49,14 +50,11 @@ module _ {A : Type 0} (r : ℕ) (bs : List Binding) (body : Binding → Tree A) 
   as_count : {f : Final A} {d : Choices} → Came (choose r n ways) c f d → Came (bind (chosen r bs) body) c f d
   as_count {f} {d} w = subst (λ (t : Tree A). Came t c f d) (sym at_count) w
 
-  pub choice_taken : {i : ℕ} {f : Final A} {d : Choices} → k.answer ≡ Taken i → Came (body (get_or bs i nothing)) k.state f d → Came (bind (chosen r bs) body) c f d
+  pub choice_taken : {i : ℕ} {f : Final A} {d : Choices} → k.answer ≡ Ok i → Came (body (get_or bs i nothing)) k.state f d → Came (bind (chosen r bs) body) c f d
   choice_taken e w = as_count (came_taken r ways h e w)
 
-  pub choice_off : (a : Answer) → k.answer ≡ a → (IsTaken a → ⊥) → Came (bind (chosen r bs) body) c (refuses (answer_number a) r (answer_count a n)) k.state
-  choice_off (Taken i) e z = absurd (z tt)
-  choice_off Many e z = as_count (came_many r ways h e)
-  choice_off Short e z = as_count (came_short r ways h e)
-  choice_off Beyond e z = as_count (came_beyond r ways h e)
+  pub choice_off : {x : Refusal} → k.answer ≡ Err x → Came (bind (chosen r bs) body) c (refuses (number_of x) r (ways_reported x n)) k.state
+  choice_off e = as_count (came_refused r ways h e)
 
 -- ---- let
 

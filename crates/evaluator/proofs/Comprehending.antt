@@ -20,7 +20,7 @@ use Rattle.patterns.specs.Binding.{Binding, nothing}
 use Rattle.calling.specs.Scratch.{Kept}
 use Rattle.calling.proofs.Framing.{kept_outside, kept_then, kept_less, kept_same, copyable_down, copied_kept}
 use Rattle.meaning.specs.State.{State}
-use Rattle.evaluator.specs.declared.Outcome.TheVariants.{Value as HasValue}
+use Rattle.evaluator.specs.Contract.{has_value}
 use Rattle.bindings.specs.declared.Cursor.{Cursor}
 use Rattle.parts.specs.declared.words.Env.{Env}
 use Rattle.evaluator.specs.Binding.{Placed, Binder, wholly, listed, Standing, Begins, Turned, holds_in, Comprehension, kind_for, adds_in, step_in, BuiltAt, Extends, Extended}
@@ -42,8 +42,8 @@ abbrev rest_in : List ℕ → ℕ → ℕ → State → Items → List Binding �
 rest_in table r k ρ vs bs = building (holds_in table r ρ) (adds_in table r k ρ) (kind_for k) vs bs
 
 -- From s₀ and c₀, where nothing is built yet, up to binding j.
-pub record Collects (table index : List ℕ) (r k : ℕ) (s₀ : List ℕ) (base : ℕ) (env : Env) (c₀ : Choices) (n : ℕ) (s : List ℕ) (c : Choices) (cursor : Cursor) (j : ℕ) : Type 0 where
-  pub asked : Ask table index r s₀ base env c₀
+pub record Collects (table : List ℕ) (r k : ℕ) (s₀ : List ℕ) (base : ℕ) (env : Env) (c₀ : Choices) (n : ℕ) (s : List ℕ) (c : Choices) (cursor : Cursor) (j : ℕ) : Type 0 where
+  pub asked : Ask table r s₀ base env c₀
   pub kind : kind_at (records table) r ≡ k
   pub comprehension : Comprehension k
   pub bindings : List Binding
@@ -60,8 +60,8 @@ pub record Collects (table index : List ℕ) (r k : ℕ) (s₀ : List ℕ) (base
 binder_of : {k : ℕ} → Comprehension k → Binder k
 binder_of h = (omega (arith, h.0), omega (arith, h.1))
 
-collects_start : {table index : List ℕ} {r k : ℕ} {s : List ℕ} {base : ℕ} {env : Env} {c : Choices} {n : ℕ} {cursor : Cursor} {bs : List Binding} → Ask table index r s base env c → kind_at (records table) r ≡ k → Comprehension k
-    → Standing table r false s base cursor bs → BuiltAt k s base none → n ≡ cursor.count → Collects table index r k s base env c n s c cursor 0
+collects_start : {table : List ℕ} {r k : ℕ} {s : List ℕ} {base : ℕ} {env : Env} {c : Choices} {n : ℕ} {cursor : Cursor} {bs : List Binding} → Ask table r s base env c → kind_at (records table) r ≡ k → Comprehension k
+    → Standing table r false s base cursor bs → BuiltAt k s base none → n ≡ cursor.count → Collects table r k s base env c n s c cursor 0
 collects_start {s = s} {base = base} {bs = bs} a d h w b e =
     record {
       asked = a;
@@ -82,12 +82,12 @@ collects_start {s = s} {base = base} {bs = bs} a d h w b e =
 items_one : {s : List ℕ} {at : ℕ} {K : Kind} {vs ws : Items} → At s at (collection K vs) → At s at (collection K ws) → vs ≡ ws
 items_one a b = let e = one_value a b in cc
 
-module _ {table index : List ℕ} {r k : ℕ} {s₀ : List ℕ} {base : ℕ} {env : Env} {c₀ : Choices} {n : ℕ} {s : List ℕ} {c : Choices} {cursor : Cursor} {j : ℕ} (b : Collects table index r k s₀ base env c₀ n s c cursor j) where
+module _ {table : List ℕ} {r k : ℕ} {s₀ : List ℕ} {base : ℕ} {env : Env} {c₀ : Choices} {n : ℕ} {s : List ℕ} {c : Choices} {cursor : Cursor} {j : ℕ} (b : Collects table r k s₀ base env c₀ n s c cursor j) where
   low : Kept s₀ s base
   low = kept_less (omega arith) b.kept
 
   module _ (l : j < n) where
-    pub collects_extends : Extends table index r k s base env c cursor j
+    pub collects_extends : Extends table r k s base env c cursor j
     collects_extends =
         record {
           stands = record { asked = ask_again b.asked low b.sound; binder = subst Binder (sym b.kind) (binder_of b.comprehension); bindings = b.bindings; standing = b.standing; below = omega (arith, b.number_of) };
@@ -112,14 +112,14 @@ module _ {table index : List ℕ} {r k : ℕ} {s₀ : List ℕ} {base : ℕ} {en
       stepped : (ρ : State) → Around s₀ base env ρ → Comes (step_in table r k ρ b.items here) (BuiltAt k t base) c (ended x.outcome d)
       stepped ρ u = turned.given.right ρ (around_kept low u)
 
-      pub collects_off : (x.outcome ≡ HasValue → ⊥) → {P : Value → Type 0} → Gives (λ ρ. build_in table r ρ k b.bindings) P s₀ t base env c₀ (ended x.outcome d)
+      pub collects_off : (x.outcome ≡ has_value → ⊥) → {P : Value → Type 0} → Gives (λ ρ. build_in table r ρ k b.bindings) P s₀ t base env c₀ (ended x.outcome d)
       collects_off h {P} = record { kept = kept_then low turned.given.kept; right = λ ρ u. go ρ (opened ρ u) (stepped ρ u) }
         where
           go : (ρ : State) → Leads (build_in table r ρ k b.bindings) c₀ (rest_in table r k ρ b.items (here ∷ drop (j + 1) b.bindings)) c → Comes (step_in table r k ρ b.items here) (BuiltAt k t base) c (ended x.outcome d) → Comes (build_in table r ρ k b.bindings) P c₀ (ended x.outcome d)
           go ρ m (gave y p w) = absurd (h y)
           go ρ m (off y w) = off y (building_off (holds_in table r ρ) (adds_in table r k ρ) (kind_for k) b.items here (drop (j + 1) b.bindings) m w)
 
-      pub collects_more : x.outcome ≡ HasValue → {j' : ℕ} {cursor' : Cursor} → j' ≡ j + 1 → cursor' ≡ x.cursor → Collects table index r k s₀ base env c₀ n t d cursor' j'
+      pub collects_more : x.outcome ≡ has_value → {j' : ℕ} {cursor' : Cursor} → j' ≡ j + 1 → cursor' ≡ x.cursor → Collects table r k s₀ base env c₀ n t d cursor' j'
       collects_more v {j'} {cursor'} z y =
           let (ws, i) = comes_held (stepped b.asked.state b.asked.around) v in
           record {
@@ -163,7 +163,7 @@ module _ {table index : List ℕ} {r k : ℕ} {s₀ : List ℕ} {base : ℕ} {en
 pub kind_as : (k : ℕ) {e m : ℕ} → e ≡ enumeration_for k → m ≡ number (built_kind e) → m ≡ number (kind_for k)
 kind_as k d q = q ∙ ap (λ (x : ℕ). number (built_kind x)) d
 
-module _ {table index : List ℕ} {r : ℕ} (k : ℕ) {s : List ℕ} {base : ℕ} {env : Env} {c : Choices} (a : Ask table index r s base env c) (d : kind_at (records table) r ≡ k) (h : Comprehension k)
+module _ {table : List ℕ} {r : ℕ} (k : ℕ) {s : List ℕ} {base : ℕ} {env : Env} {c : Choices} (a : Ask table r s base env c) (d : kind_at (records table) r ≡ k) (h : Comprehension k)
     {t : List ℕ} {x : Placed} {c₁ : Choices} (g : Begins table r k s t base env c x c₁) where
   equation : (ρ : State) → meant table r ρ ≡ bind (listed table r k ρ) (build_in table r ρ k)
   equation ρ = mean_comprehension a.legal r ρ k h.0 h.1 d
@@ -171,20 +171,20 @@ module _ {table index : List ℕ} {r : ℕ} (k : ℕ) {s : List ℕ} {base : ℕ
   not_whole : wholly k ≡ false
   not_whole = ne_eqb k 12 (λ e. omega (arith, h.0))
 
-  pub collect_off : (x.outcome ≡ HasValue → ⊥) → Evaluates table r s t base env c (ended x.outcome c₁)
+  pub collect_off : (x.outcome ≡ has_value → ⊥) → Evaluates table r s t base env c (ended x.outcome c₁)
   collect_off n = opened_off k a g (λ ρ. build_in table r ρ k) equation n
 
   pub collect_room : {m : ℕ} → m ≡ number (kind_for k) → (base + 1024 + 4 ≤ length t) × (m < 65536)
   collect_room e = (omega (arith, room_here a, g.kept.long), built_small (enumeration_for k) e)
 
-  module _ (v : x.outcome ≡ HasValue) {m : ℕ} (is_m : m ≡ number (kind_for k)) {u : List ℕ} (o : Empties t u (base + 1024) m) where
+  module _ (v : x.outcome ≡ has_value) {m : ℕ} (is_m : m ≡ number (kind_for k)) {u : List ℕ} (o : Empties t u (base + 1024) m) where
     kept-empty : Kept t u (base + 1024)
     kept-empty = kept_outside (omega arith) o.frame
 
     standing_at : (bs : List Binding) × Standing table r false t base x.cursor bs
     standing_at = let (bs, w) = opened_standing k a g v in (bs, subst (λ (y : Bool). Standing table r y t base x.cursor bs) not_whole w)
 
-    pub collect_start : {n : ℕ} → n ≡ x.cursor.count → Collects table index r k u base env c₁ n u c₁ x.cursor 0
+    pub collect_start : {n : ℕ} → n ≡ x.cursor.count → Collects table r k u base env c₁ n u c₁ x.cursor 0
     collect_start e =
         let (bs, w) = standing_at in
         collects_start (ask_again (opened_asked k a g v) (kept_less (omega arith) kept-empty) (opened_asked k a g v).sound) d h (standing_kept kept-empty (omega arith) w) (o.right (kind_for k) is_m (shaped_none (enumeration_for k))) e

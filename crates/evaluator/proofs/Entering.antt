@@ -21,10 +21,11 @@ use Rattle.calling.specs.Scratch.{Kept}
 use Rattle.calling.proofs.Framing.{kept_outside, kept_then, kept_less}
 use Rattle.meaning.specs.State.{State, under}
 use Rattle.meaning.specs.Meaning.{is_true, or_else}
-use Rattle.evaluator.specs.declared.Outcome.{Outcome}
-use Rattle.evaluator.specs.declared.Outcome.TheVariants.{Value as HasValue, Refused}
-use Rattle.evaluator.specs.declared.Truth.{Truth}
-use Rattle.evaluator.specs.declared.Truth.TheVariants.{True, False, Other}
+use Rattle.evaluator.specs.Contract.{Ended}
+use Rattle.evaluator.specs.Contract.{has_value, refusal_at}
+use Rattle.std.specs.declared.option.Option.{Option as Maybe}
+use Rattle.std.specs.Prelude.{Some, None, Err}
+use Rattle.prelude.specs.declared.Refusal.TheVariants.{WrongKind}
 use Rattle.bindings.specs.declared.Cursor.{Cursor}
 use Rattle.parts.specs.declared.words.Env.{Env}
 use Rattle.evaluator.specs.Binding.{Placed, Held, Standing, Stands, Nameless, BindsNames, Upward, Insides, holds_in, Tests}
@@ -38,7 +39,7 @@ use Rattle.evaluator.proofs.Tables.{ask_down, lower_down, room_here}
 use Rattle.evaluator.proofs.Standing.{standing_kept, around_under}
 
 -- The bindings stand there again after a window was filled.
-pub reached_standing : {table index : List ℕ} {r : ℕ} {whole : Bool} {s : List ℕ} {base : ℕ} {env : Env} {c : Choices} {cursor : Cursor} {j : ℕ} → Stands table index r whole s base env c cursor j → {p : ℕ} → p ≡ operand_at table r 0
+pub reached_standing : {table : List ℕ} {r : ℕ} {whole : Bool} {s : List ℕ} {base : ℕ} {env : Env} {c : Choices} {cursor : Cursor} {j : ℕ} → Stands table r whole s base env c cursor j → {p : ℕ} → p ≡ operand_at table r 0
     → {t : List ℕ} {near : Cursor} → Reached table p s t base whole (base + 512) cursor j near → {bs : List Binding} → Standing table r whole s base cursor bs → Standing table r whole t base near bs
 reached_standing {table} {whole = whole} {base = base} a is_p o {bs} h =
     record {
@@ -48,7 +49,7 @@ reached_standing {table} {whole = whole} {base = base} a is_p o {bs} h =
       window = o.window-is h.values bs h.are (ap (λ (x : ℕ). formed (pattern_at (records table) x) h.values) is_p ∙ h.formed_as) h.window;
     }
 
-module _ {table index : List ℕ} {r : ℕ} {whole : Bool} {s : List ℕ} {base : ℕ} {env : Env} {c : Choices} {cursor : Cursor} {j : ℕ} (a : Stands table index r whole s base env c cursor j) {up : ℕ} (upward : Upward up) where
+module _ {table : List ℕ} {r : ℕ} {whole : Bool} {s : List ℕ} {base : ℕ} {env : Env} {c : Choices} {cursor : Cursor} {j : ℕ} (a : Stands table r whole s base env c cursor j) {up : ℕ} (upward : Upward up) where
   room : base + 2048 ≤ length s
   room = omega (arith, room_here a.asked)
 
@@ -85,7 +86,7 @@ module _ {table index : List ℕ} {r : ℕ} {whole : Bool} {s : List ℕ} {base 
             (around_under u (reached h).window (omega arith) (omega (arith, room, o.outside.long)) (around_kept (kept_less (omega arith) kept_low) w))
 
         module _ {i q : ℕ} (has : i < length (named (record_at (records table) r))) (is_q : q ≡ operand_at table r i) where
-          pub inside_asked : (q < r) × Ask table index q t (base + up) inner c
+          pub inside_asked : (q < r) × Ask table q t (base + up) inner c
           inside_asked = (
             lower_down a.asked i has is_q,
             ask_down a.asked i has is_q {ρ = under a.asked.state (get_or a.bindings j nothing)} o.outside.long (omega arith) (inner_around a.standing a.asked.around) a.asked.sound,
@@ -96,7 +97,7 @@ module _ {table index : List ℕ} {r : ℕ} {whole : Bool} {s : List ℕ} {base 
               record {
                 turned = λ bs h.
                     record {
-                      given = subst (λ (w : Outcome). Gives (λ ρ. meant table q (under ρ (get_or bs j nothing))) (At v (base + up)) s v base env c (ended w e.choices)) (sym y)
+                      given = subst (λ (w : Ended). Gives (λ ρ. meant table q (under ρ (get_or bs j nothing))) (At v (base + up)) s v base env c (ended w e.choices)) (sym y)
                           (record { kept = kept_less (omega arith) low; right = λ ρ w. g.right (under ρ (get_or bs j nothing)) (inner_around h w) });
                       low = low;
                       standing = subst (λ (k : Cursor). Standing table r whole v base k bs) (sym z) (standing_kept {n = base + up} g.kept (omega arith) (reached h));
@@ -116,7 +117,7 @@ pub entered : {table : List ℕ} {r p : ℕ} → p ≡ operand_at table r 0 → 
 entered {table} e {whole} {s} {t} {base} {cursor = cursor} {j} {near} h = subst (λ (m : ℕ). Reached table m s t base whole (base + 512) cursor j near) (sym e) h.reached
 
 -- Under a binding without names, which stands in the window, nothing is to be entered.
-pub nameless_enters : {table index : List ℕ} {r : ℕ} {whole : Bool} {s : List ℕ} {base : ℕ} {env : Env} {c : Choices} {cursor : Cursor} {j : ℕ} → Stands table index r whole s base env c cursor j → Nameless cursor → BindsNames table r whole s s base env cursor j cursor env
+pub nameless_enters : {table : List ℕ} {r : ℕ} {whole : Bool} {s : List ℕ} {base : ℕ} {env : Env} {c : Choices} {cursor : Cursor} {j : ℕ} → Stands table r whole s base env c cursor j → Nameless cursor → BindsNames table r whole s s base env cursor j cursor env
 nameless_enters {s = s} {base = base} {env = env} {cursor = cursor} {j = j} a n = record {
   reached = record { outside = record { long = refl; below = refl; above = refl }; count = refl; window-is = λ vs bs i f w. w; within = within };
   under = record {
@@ -136,7 +137,7 @@ nameless_enters {s = s} {base = base} {env = env} {cursor = cursor} {j = j} a n 
 
 -- ---- a condition
 
-module _ {table index : List ℕ} {r : ℕ} {s : List ℕ} {base : ℕ} {env : Env} {c : Choices} {cursor : Cursor} {j : ℕ} (a : Stands table index r false s base env c cursor j) {q : ℕ} (is_q : q ≡ operand_at table r 2)
+module _ {table : List ℕ} {r : ℕ} {s : List ℕ} {base : ℕ} {env : Env} {c : Choices} {cursor : Cursor} {j : ℕ} (a : Stands table r false s base env c cursor j) {q : ℕ} (is_q : q ≡ operand_at table r 2)
     {t : List ℕ} {x : Placed} {d : Choices} (o : Insides table r q false s t base 1536 env c cursor j x d) where
   abbrev test : State → List Binding → Tree Bool
   test ρ bs = holds_in table r ρ (get_or bs j nothing)
@@ -153,24 +154,24 @@ module _ {table index : List ℕ} {r : ℕ} {s : List ℕ} {base : ℕ} {env : E
   value_part : (bs : List Binding) → Standing table r false s base cursor bs → (ρ : State) → Around s base env ρ → Comes (meant table (operand_at table r 2) (under ρ (get_or bs j nothing))) (At t (base + 1536)) c (ended x.outcome d)
   value_part bs g ρ u = subst (λ (m : ℕ). Comes (meant table m (under ρ (get_or bs j nothing))) (At t (base + 1536)) c (ended x.outcome d)) is_q ((o.turned bs g).given.right ρ u)
 
-  pub test_off : (x.outcome ≡ HasValue → ⊥) → {h : Held} → h.outcome ≡ x.outcome → h.cursor ≡ x.cursor → Tests table r s t base env c cursor j h d
+  pub test_off : (x.outcome ≡ has_value → ⊥) → {h : Held} → h.outcome ≡ x.outcome → h.cursor ≡ x.cursor → Tests table r s t base env c cursor j h d
   test_off n {h} y z =
-      tested {h = h} z (λ bs g ρ u. subst (λ (w : Outcome). Comes (test ρ bs) (λ y. h.yes ≡ y) c (ended w d)) (sym y) (comes_stop (is_true r) (value_part bs g ρ u) n))
+      tested {h = h} z (λ bs g ρ u. subst (λ (w : Ended). Comes (test ρ bs) (λ y. h.yes ≡ y) c (ended w d)) (sym y) (comes_stop (is_true r) (value_part bs g ρ u) n))
 
-  module _ (v : x.outcome ≡ HasValue) where
+  module _ (v : x.outcome ≡ has_value) where
     pub test_held : Holds t (base + 1536)
     test_held = let (w, i) = comes_held (value_part a.bindings a.standing a.asked.state a.asked.around) v in held_at i
 
-    module _ (w : Truth) (told : Tells t (base + 1536) w) where
-      by_truth : {h : Held} (x' : Truth) → w ≡ x' → h.cursor ≡ x.cursor → (Invariant d → Comes (or_else 20 r (read_as x')) (λ y. h.yes ≡ y) d (ended h.outcome d)) → Tests table r s t base env c cursor j h d
+    module _ (w : Maybe Bool) (told : Tells t (base + 1536) w) where
+      by_truth : {h : Held} (x' : Maybe Bool) → w ≡ x' → h.cursor ≡ x.cursor → (Invariant d → Comes (or_else 20 r (read_as x')) (λ y. h.yes ≡ y) d (ended h.outcome d)) → Tests table r s t base env c cursor j h d
       by_truth {h} x' z y k =
           tested {h = h} y (λ bs g ρ u. let m = value_part bs g ρ u in comes_on (is_true r) m v (λ b i. comes_as (ap (or_else 20 r) (told b i ∙ ap read_as z)) (k (comes_sound m))))
 
-      pub test_other : w ≡ Other → {h : Held} → h.outcome ≡ Refused 20 r 0 → h.cursor ≡ x.cursor → Tests table r s t base env c cursor j h d
-      test_other z {h} y k = by_truth {h = h} Other z k (λ l. subst (λ (o : Outcome). Comes (stop 20 r) (λ y. h.yes ≡ y) d (ended o d)) (sym y) (comes_refused 20 r l))
+      pub test_other : w ≡ None → {h : Held} → h.outcome ≡ Err (refusal_at WrongKind r) → h.cursor ≡ x.cursor → Tests table r s t base env c cursor j h d
+      test_other z {h} y k = by_truth {h = h} None z k (λ l. subst (λ (o : Ended). Comes (stop 20 r) (λ y. h.yes ≡ y) d (ended o d)) (sym y) (comes_refused WrongKind r l))
 
-      pub test_true : w ≡ True → {h : Held} → h.outcome ≡ HasValue → h.cursor ≡ x.cursor → h.yes ≡ true → Tests table r s t base env c cursor j h d
-      test_true z {h} y k b = by_truth {h = h} True z k (λ l. subst (λ (o : Outcome). Comes (give true) (λ y. h.yes ≡ y) d (ended o d)) (sym y) (comes_value l b))
+      pub test_true : w ≡ Some true → {h : Held} → h.outcome ≡ has_value → h.cursor ≡ x.cursor → h.yes ≡ true → Tests table r s t base env c cursor j h d
+      test_true z {h} y k b = by_truth {h = h} (Some true) z k (λ l. subst (λ (o : Ended). Comes (give true) (λ y. h.yes ≡ y) d (ended o d)) (sym y) (comes_value l b))
 
-      pub test_false : w ≡ False → {h : Held} → h.outcome ≡ HasValue → h.cursor ≡ x.cursor → h.yes ≡ false → Tests table r s t base env c cursor j h d
-      test_false z {h} y k b = by_truth {h = h} False z k (λ l. subst (λ (o : Outcome). Comes (give false) (λ y. h.yes ≡ y) d (ended o d)) (sym y) (comes_value l b))
+      pub test_false : w ≡ Some false → {h : Held} → h.outcome ≡ has_value → h.cursor ≡ x.cursor → h.yes ≡ false → Tests table r s t base env c cursor j h d
+      test_false z {h} y k b = by_truth {h = h} (Some false) z k (λ l. subst (λ (o : Ended). Comes (give false) (λ y. h.yes ≡ y) d (ended o d)) (sym y) (comes_value l b))

@@ -31,11 +31,13 @@ use Rattle.calling.specs.Scratch.{Kept}
 use Rattle.calling.proofs.Framing.{kept_outside, kept_then, kept_less, kept_same}
 use Rattle.meaning.specs.State.{State}
 use Rattle.meaning.specs.Meaning.{Evaluation as Evaluates, at, all_of, enumerated}
-use Rattle.evaluator.specs.declared.Outcome.{Outcome}
-use Rattle.evaluator.specs.declared.Outcome.TheVariants.{Value as HasValue}
+use Rattle.evaluator.specs.Contract.{Ended}
+use Rattle.evaluator.specs.Contract.{has_value}
 use Rattle.parts.specs.declared.words.Env.{Env}
 use Rattle.evaluator.specs.Contract.{Evaluated, ended, Ask, Around, Gives, Comes, gave, off, meant, level}
-use Rattle.evaluator.specs.Building.{Enumerated, built_kind, final_kind, add_to, Pending, going, halted, AddHeld, AddsNext, EnterHeld, EntersNext, ShapedAs, Finishable, Answers, valued, unvalued, Finishes}
+use Rattle.std.specs.Prelude.{Ok}
+use Rattle.prelude.specs.Refusals.{number_of}
+use Rattle.evaluator.specs.Building.{SoFar, Enumerated, built_kind, final_kind, add_to, Pending, going, halted, AddHeld, AddsNext, EnterHeld, EntersNext, ShapedAs, Finishable, Answers, valued, unvalued, Finishes}
 use Rattle.evaluator.proofs.Leading.{Leads, leads_start, leads_as}
 use Rattle.evaluator.proofs.Framing.{around_kept, around_up, at_kept}
 use Rattle.evaluator.proofs.Coming.{comes_held, leads_comes, leads_stop, leads_on}
@@ -129,7 +131,7 @@ not_nine (inr (inr x)) y = omega arith
 abbrev pub Listed : ℕ → Type 0
 Listed k = Enumerated k ⊎ (k ≡ 9)
 
-module _ {table index : List ℕ} {r : ℕ} {s : List ℕ} {base : ℕ} {env : Env} {c : Choices} (a : Ask table index r s base env c) where
+module _ {table : List ℕ} {r : ℕ} {s : List ℕ} {base : ℕ} {env : Env} {c : Choices} (a : Ask table r s base env c) where
   rest_all : {k : ℕ} → kind_at (records table) r ≡ k → Listed k → (ρ : State) → meant table r ρ ≡ rest_of k r (meant table) (named (record_at (records table) r)) ρ (built none)
   rest_all {k} d w ρ = go w
     where
@@ -179,14 +181,14 @@ tallied_more k (built us) v i h = go (ℕ-cases k)
     go (inr e) = rw e (fit (leb (4 + sizes (snoc us v)) value_limit) (λ z. count_snoc us v ∙ (let q = h z in omega arith)))
 
 -- In a state: what is built, and the run of the whole goes on as the run of what is left.
-pub record Going (table : List ℕ) (r k : ℕ) (base : ℕ) (c₀ : Choices) (ρ : State) (s : List ℕ) (c : Choices) (bad i : ℕ) : Type 0 where
+pub record Going (table : List ℕ) (r k : ℕ) (base : ℕ) (c₀ : Choices) (ρ : State) (s : List ℕ) (c : Choices) (bad : SoFar) (i : ℕ) : Type 0 where
   pub so_far : Built
   pub pending : Pending k s base bad so_far
   pub tallied : Tallied k so_far i
   pub leads : Leads (meant table r ρ) c₀ (rest_of k r (meant table) (drop i (named (record_at (records table) r))) ρ so_far) c
 
-pub record Building (table index : List ℕ) (r : ℕ) (s₀ : List ℕ) (base : ℕ) (env : Env) (k n : ℕ) (c₀ : Choices) (s : List ℕ) (c : Choices) (bad i : ℕ) : Type 0 where
-  pub asked : Ask table index r s₀ base env c₀
+pub record Building (table : List ℕ) (r : ℕ) (s₀ : List ℕ) (base : ℕ) (env : Env) (k n : ℕ) (c₀ : Choices) (s : List ℕ) (c : Choices) (bad : SoFar) (i : ℕ) : Type 0 where
+  pub asked : Ask table r s₀ base env c₀
   pub kind_is : kind_at (records table) r ≡ k
   pub which : Listed k
   pub count : n ≡ length (named (record_at (records table) r))
@@ -208,14 +210,14 @@ shaped_none k = go (eqb k 7) (eqb k 9)
 pub empties_kept : {s t : List ℕ} {base m : ℕ} → Empties s t base m → Kept s t base
 empties_kept h = kept_outside (omega arith) h.frame
 
-asked_kept : {table index : List ℕ} {r : ℕ} {s t : List ℕ} {base : ℕ} {env : Env} {c : Choices} → Kept s t base → Ask table index r s base env c → Ask table index r t base env c
+asked_kept : {table : List ℕ} {r : ℕ} {s t : List ℕ} {base : ℕ} {env : Env} {c : Choices} → Kept s t base → Ask table r s base env c → Ask table r t base env c
 asked_kept k a = record { legal = a.legal; within = a.within; room = omega (arith, a.room, k.long); low = omega (arith, a.low, k.long); state = a.state; around = around_kept k a.around; sound = a.sound }
 
 -- from the entry of the function
 pub from_entry : {m : State → Tree Value} {P : Value → Type 0} {s t u : List ℕ} {base : ℕ} {env : Env} {c : Choices} {e : Evaluated} → Kept s t base → Gives m P t u base env c e → Gives m P s u base env c e
 from_entry k g = record { kept = kept_then k g.kept; right = λ ρ a. g.right ρ (around_kept k a) }
 
-pub building_start : {table index : List ℕ} {r : ℕ} {s t : List ℕ} {base : ℕ} {env : Env} {c : Choices} {k n m : ℕ} → Ask table index r s base env c → kind_at (records table) r ≡ k → Listed k → n ≡ length (named (record_at (records table) r)) → m ≡ number (built_kind k) → Empties s t base m → Building table index r t base env k n c t c 0 0
+pub building_start : {table : List ℕ} {r : ℕ} {s t : List ℕ} {base : ℕ} {env : Env} {c : Choices} {k n m : ℕ} → Ask table r s base env c → kind_at (records table) r ≡ k → Listed k → n ≡ length (named (record_at (records table) r)) → m ≡ number (built_kind k) → Empties s t base m → Building table r t base env k n c t c (Ok tt) 0
 building_start {t = t} {base = base} {c = c} {k = k} a d w q z h =
     record {
       asked = asked_kept (empties_kept h) a;
@@ -228,16 +230,19 @@ building_start {t = t} {base = base} {c = c} {k = k} a d w q z h =
       right = λ ρ u. record { so_far = built none; pending = going refl (h.right (built_kind k) z (shaped_none k)); tallied = tallied_none k; leads = leads_start a.sound (rest_all a d w ρ) };
     }
 
-module _ {table index : List ℕ} {r : ℕ} {s₀ : List ℕ} {base : ℕ} {env : Env} {k n : ℕ} {c₀ : Choices} {s : List ℕ} {c : Choices} {bad i : ℕ} (b : Building table index r s₀ base env k n c₀ s c bad i) where
+module _ {table : List ℕ} {r : ℕ} {s₀ : List ℕ} {base : ℕ} {env : Env} {k n : ℕ} {c₀ : Choices} {s : List ℕ} {c : Choices} {bad : SoFar} {i : ℕ} (b : Building table r s₀ base env k n c₀ s c bad i) where
   abbrev ops : List ℕ
   ops = named (record_at (records table) r)
 
-  pub building_has : i < n → HasOperand table index r i
+  pub building_has : i < n → HasOperand table r i
   building_has l = record { here = here b.asked; has = omega (arith, b.count) }
 
   -- a map has a value for each key
   pub building_second : k ≡ 9 → i < n → i + 1 < n
   building_second e l = let z = map_even b.asked.legal r b.asked.state (b.kind_is ∙ e) in omega (arith, b.count, b.even e)
+
+  pub building_even : k ≡ 9 → n % 2 ≡ 0
+  building_even e = let z = map_even b.asked.legal r b.asked.state (b.kind_is ∙ e) in omega (arith, b.count)
 
   around_now : {ρ : State} {up : ℕ} → base ≤ up → up ≤ base + level → Around s₀ base env ρ → Around s up env ρ
   around_now h h' u = around_up h (omega (arith, room_here b.asked, b.kept.long)) (around_kept b.kept u)
@@ -245,7 +250,7 @@ module _ {table index : List ℕ} {r : ℕ} {s₀ : List ℕ} {base : ℕ} {env 
   pub building_room : base + 2048 ≤ length s
   building_room = omega (arith, room_here b.asked, b.kept.long)
 
-  pub building_ask : i < n → {o : ℕ} → o ≡ operand (record_at (records table) r) i → (o < r) × Ask table index o s (base + 512) env c
+  pub building_ask : i < n → {o : ℕ} → o ≡ operand (record_at (records table) r) i → (o < r) × Ask table o s (base + 512) env c
   building_ask l q = (
     lower_down b.asked i (omega (arith, b.count)) q,
     ask_down b.asked i (omega (arith, b.count)) q {ρ = b.asked.state} b.kept.long (omega arith) (around_now (omega arith) (omega arith) b.asked.around) (b.right b.asked.state b.asked.around).leads.sound,
@@ -256,7 +261,7 @@ module _ {table index : List ℕ} {r : ℕ} {s₀ : List ℕ} {base : ℕ} {env 
 
   pending_up : {t : List ℕ} {up : ℕ} → Kept s t up → base + 512 ≤ up → up ≤ base + 2048 → {x : Built} → Pending k s base bad x → Pending k t base bad x
   pending_up {up = up} g h h' (going d a) = going d (at_kept {base = up} g (omega (arith, building_room)) (omega arith) a)
-  pending_up g h h' (halted d m n) = halted d m n
+  pending_up g h h' (halted d) = halted d
 
   -- ---- one by one
   module _ (w : Enumerated k) (l : i < n) {o : ℕ} (q : o ≡ operand (record_at (records table) r) i) {t : List ℕ} {e : Evaluated} (g : Gives (meant table o) (At t (base + 512)) s t (base + 512) env c e) where
@@ -280,18 +285,18 @@ module _ {table index : List ℕ} {r : ℕ} {s₀ : List ℕ} {base : ℕ} {env 
     now_leads : (ρ : State) (u : Around s₀ base env ρ) → Leads (meant table r ρ) c₀ (bind (meant table o ρ) (next ρ (b.right ρ u).so_far)) c
     now_leads ρ u = leads_as (here_more ρ (b.right ρ u).so_far) (b.right ρ u).leads
 
-    pub building_off : (e.outcome ≡ HasValue → ⊥) → Gives (meant table r) (At t base) s₀ t base env c₀ e
+    pub building_off : (e.outcome ≡ has_value → ⊥) → Gives (meant table r) (At t base) s₀ t base env c₀ e
     building_off h =
         record { kept = kept_then b.kept (kept_less (omega arith) g.kept); right = λ ρ u. leads_stop (next ρ (b.right ρ u).so_far) (now_leads ρ u) (g.right ρ (around_now (omega arith) (omega arith) u)) h }
 
-    module _ (h : e.outcome ≡ HasValue) where
+    module _ (h : e.outcome ≡ has_value) where
       pub building_held : AddHeld k t base bad
       building_held =
           let x = b.right b.asked.state b.asked.around in
           let (v, j) = comes_held (g.right b.asked.state (around_now (omega arith) (omega arith) b.asked.around)) h in
-          record { which = w; so_far = x.so_far; pending = pending_up g.kept (omega arith) (omega arith) x.pending; item = holds j; room = omega (arith, building_room, g.kept.long) }
+          record { which = w; before = x.so_far; pending = pending_up g.kept (omega arith) (omega arith) x.pending; item = holds j; room = omega (arith, building_room, g.kept.long) }
 
-      pub building_more : {u : List ℕ} {bad' i' : ℕ} → i' ≡ i + 1 → AddsNext k t u base bad bad' → Building table index r s₀ base env k n c₀ u e.choices bad' i'
+      pub building_more : {u : List ℕ} {bad' : SoFar} {i' : ℕ} → i' ≡ i + 1 → AddsNext k t u base bad bad' → Building table r s₀ base env k n c₀ u e.choices bad' i'
       building_more {u} {bad'} {i'} z f =
           record {
             asked = b.asked;
@@ -337,21 +342,21 @@ module _ {table index : List ℕ} {r : ℕ} {s₀ : List ℕ} {base : ℕ} {env 
     key_leads : (ρ : State) (u : Around s₀ base env ρ) → Leads (meant table r ρ) c₀ (bind (meant table o ρ) (after_key ρ (b.right ρ u).so_far)) c
     key_leads ρ u = leads_as (pair_more ρ (b.right ρ u).so_far) (b.right ρ u).leads
 
-    pub key_off : (e.outcome ≡ HasValue → ⊥) → Gives (meant table r) (At t base) s₀ t base env c₀ e
+    pub key_off : (e.outcome ≡ has_value → ⊥) → Gives (meant table r) (At t base) s₀ t base env c₀ e
     key_off h =
         record { kept = kept_then b.kept (kept_less (omega arith) g.kept); right = λ ρ u. leads_stop (after_key ρ (b.right ρ u).so_far) (key_leads ρ u) (g.right ρ (around_now (omega arith) (omega arith) u)) h }
 
-    pub second_has : HasOperand table index r (i + 1)
+    pub second_has : HasOperand table r (i + 1)
     second_has = record { here = here b.asked; has = omega (arith, building_second w l, b.count) }
 
-    module _ (h : e.outcome ≡ HasValue) {o' : ℕ} (q' : o' ≡ operand (record_at (records table) r) (i + 1)) where
+    module _ (h : e.outcome ≡ has_value) {o' : ℕ} (q' : o' ≡ operand (record_at (records table) r) (i + 1)) where
       on_key : (ρ : State) (u : Around s₀ base env ρ) → (key : Value) × At t (base + 512) key × Leads (meant table r ρ) c₀ (after_key ρ (b.right ρ u).so_far key) e.choices
       on_key ρ u = leads_on (after_key ρ (b.right ρ u).so_far) (key_leads ρ u) (g.right ρ (around_now (omega arith) (omega arith) u)) h
 
       around_key : {ρ : State} → Around s₀ base env ρ → Around t (base + 1024) env ρ
       around_key u = around_up (omega arith) (omega (arith, building_room, g.kept.long)) (around_kept g.kept (around_now (omega arith) (omega arith) u))
 
-      pub value_ask : (o' < r) × Ask table index o' t (base + 1024) env e.choices
+      pub value_ask : (o' < r) × Ask table o' t (base + 1024) env e.choices
       value_ask =
           let u = b.asked.around in (
             lower_down b.asked (i + 1) second_has.has q',
@@ -365,7 +370,7 @@ module _ {table index : List ℕ} {r : ℕ} {s₀ : List ℕ} {base : ℕ} {env 
         kept_two : Kept s₀ t' base
         kept_two = kept_then b.kept (kept_then (kept_less (omega arith) g.kept) (kept_less (omega arith) g'.kept))
 
-        pub value_off : (f.outcome ≡ HasValue → ⊥) → Gives (meant table r) (At t' base) s₀ t' base env c₀ f
+        pub value_off : (f.outcome ≡ has_value → ⊥) → Gives (meant table r) (At t' base) s₀ t' base env c₀ f
         value_off h' =
             record { kept = kept_two; right = λ ρ u. leads_stop (rest_by ρ (b.right ρ u).so_far (on_key ρ u).0) (value_leads ρ u) (g'.right ρ (around_key u)) h' }
 
@@ -374,23 +379,23 @@ module _ {table index : List ℕ} {r : ℕ} {s₀ : List ℕ} {base : ℕ} {env 
           where
             again : {x : Built} → Pending k t base bad x → Pending k t' base bad x
             again (going d a) = going d (at_kept {base = base + 1024} g'.kept (omega (arith, building_room, g.kept.long)) (omega arith) a)
-            again (halted d m n) = halted d m n
+            again (halted d) = halted d
 
         key_still : {key : Value} → At t (base + 512) key → At t' (base + 512) key
         key_still a = at_kept {base = base + 1024} g'.kept (omega (arith, building_room, g.kept.long)) (omega arith) a
 
-        pending_nine : {m : ℕ} {t : List ℕ} {bad : ℕ} {x : Built} → m ≡ 9 → Pending m t base bad x → Pending 9 t base bad x
+        pending_nine : {m : ℕ} {t : List ℕ} {bad : SoFar} {x : Built} → m ≡ 9 → Pending m t base bad x → Pending 9 t base bad x
         pending_nine {t = t} {bad} {x} e p = subst (λ (m : ℕ). Pending m t base bad x) e p
 
-        module _ (h' : f.outcome ≡ HasValue) where
+        module _ (h' : f.outcome ≡ has_value) where
           pub pair_held : EnterHeld t' base bad
           pair_held =
               let u = b.asked.around in
               let x = b.right b.asked.state u in
               let (v, j) = comes_held (g'.right b.asked.state (around_key u)) h' in
-              record { so_far = x.so_far; pending = pending_nine w (pending_two x.pending); key = holds (key_still (on_key b.asked.state u).1); value = holds j; room = omega (arith, building_room, g.kept.long, g'.kept.long) }
+              record { before = x.so_far; pending = pending_nine w (pending_two x.pending); key = holds (key_still (on_key b.asked.state u).1); value = holds j; room = omega (arith, building_room, g.kept.long, g'.kept.long) }
 
-          pub pair_next : {u : List ℕ} {bad' i' : ℕ} → i' ≡ i + 2 → EntersNext t' u base bad bad' → Building table index r s₀ base env k n c₀ u f.choices bad' i'
+          pub pair_next : {u : List ℕ} {bad' : SoFar} {i' : ℕ} → i' ≡ i + 2 → EntersNext t' u base bad bad' → Building table r s₀ base env k n c₀ u f.choices bad' i'
           pair_next {u} {bad'} {i'} z x =
               record {
                 asked = b.asked;
@@ -421,13 +426,13 @@ module _ {table index : List ℕ} {r : ℕ} {s₀ : List ℕ} {base : ℕ} {env 
 
   -- ---- the end
   pub building_finish : Finishable k s base bad r
-  building_finish = let x = b.right b.asked.state b.asked.around in record { so_far = x.so_far; pending = x.pending; place = small_place b.asked }
+  building_finish = let x = b.right b.asked.state b.asked.around in record { before = x.so_far; pending = x.pending; place = small_place b.asked }
 
   shaped_now : (x : Built) → n ≤ i → Tallied k x i → ShapedAs k x
   shaped_now (built vs) l h = λ e. let z = tuple_few b.asked.legal r b.asked.state (b.kind_is ∙ e) in let y = h e in (omega (arith, b.count, b.within, z.0), omega (arith, b.count, b.within, z.1))
   shaped_now (stopped m) l h = tt
 
-  pub building_end : n ≤ i → {t : List ℕ} {o : Outcome} → Finishes k s t base bad r o → Gives (meant table r) (At t base) s₀ t base env c₀ (ended o c)
+  pub building_end : n ≤ i → {t : List ℕ} {o : Ended} → Finishes k s t base bad r o → Gives (meant table r) (At t base) s₀ t base env c₀ (ended o c)
   building_end l {t} {o} f =
       record {
         kept = kept_then b.kept f.kept;
@@ -439,4 +444,4 @@ module _ {table index : List ℕ} {r : ℕ} {s₀ : List ℕ} {base : ℕ} {env 
     where
       finished : {y : Answer} → Invariant c → Answers t base r o y → Comes (at r y) (At t base) c (ended o c)
       finished h (valued d a) = gave d a (came_give _ h)
-      finished h (unvalued {n = m} d) = off d (came_stop m r h)
+      finished h (unvalued {x = x} d) = off d (came_stop (number_of x) r h)

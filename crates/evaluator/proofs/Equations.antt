@@ -26,7 +26,7 @@ use Rattle.meaning.proofs.Laws.Equation.{meaning_is}
 use Rattle.meaning.proofs.Laws.Proper.{Literal, proper, downward}
 use Rattle.evaluator.specs.Contract.{Legal, meant}
 
-module _ {table index : List ℕ} (L : Legal table index) (r : ℕ) (ρ : State) where
+module _ {table : List ℕ} (L : Legal table) (r : ℕ) (ρ : State) where
   abbrev pub q : Record
   q = record_at (records table) r
 

@@ -4,7 +4,6 @@ mod Framing
 mod Coming
 mod Tables
 mod Firsts
-mod Wording
 mod Equations
 mod Giving
 mod Members

@@ -47,7 +47,7 @@ module _ (table : List ℕ) (r : ℕ) (ρ : State) where
   abbrev pub unique_in : List Binding → Tree Value
   unique_in sat = unique r (pattern_for table r) sat
 
-module _ {table index : List ℕ} (L : Legal table index) (r : ℕ) (ρ : State) where
+module _ {table : List ℕ} (L : Legal table) (r : ℕ) (ρ : State) where
   abbrev found : Tree (List Binding)
   found = bindings_of (meant table) r (pattern_for table r) (operand_at table r 1) ρ
 

@@ -6,15 +6,14 @@ use mathlib.Core.Logic.{◌⊎◌, inl, inr}
 use Prim.Native.Nat.{ℕ, zero, suc, ◌+◌, ◌-◌, ◌≤◌, ◌<◌}
 use native.Mathlib.Omega.{arith}
 use borrow.Author.Tests.{eq-eqb, ne_eqb}
-use mathlib.Core.Bool.{cond}
+use mathlib.Core.Bool.{Bool, cond, false, true}
 use Rattle.values.specs.Value.{Value, WellFormed}
 use Rattle.operators.specs.Answer.{FineAnswer}
-use Rattle.operator_laws.proofs.Results.{unary_fine, binary_fine, range_fine, apply_fine, FineLeft, left_fine, right_fine}
-use Rattle.prelude.proofs.Absurd.{impossible}
+use Rattle.operator_laws.proofs.Results.{binary_fine, range_fine, apply_fine}
 use Rattle.values.specs.Place.{At}
 use Rattle.choices.specs.State.{Choices}
 use Rattle.choices.specs.Tree.{Tree, stop, bind}
-use Rattle.operators.specs.Booleans.{Left, left, right}
+use Rattle.operators.specs.Booleans.{left, right}
 use Rattle.operators.specs.Operators.{unary, binary}
 use Rattle.tables.specs.Record.{shape, operand}
 use Rattle.tables.specs.Table.{record_at, kind_at}
@@ -22,25 +21,27 @@ use Rattle.tables.specs.Accepted.{records}
 use Rattle.tables.specs.Reading.{HasOperand, HasField}
 use Rattle.tables.proofs.Laws.Accepted.{named_count}
 use Rattle.operations.specs.Numbers.{Unary}
-use Rattle.calling.specs.declared.Applied.{Applied}
-use Rattle.calling.specs.declared.Tested.{Tested}
-use Rattle.calling.specs.declared.Tested.TheVariants.{Settled, Open, Refused as Off}
-use Rattle.calling.specs.Applied.{One, Two, OnOne, OnTwo}
+use Rattle.calling.specs.declared.Tested.TheVariants.{Settled, Open}
+use Rattle.calling.specs.Applied.{Applied, One, Two, OnOne, OnTwo}
 use Rattle.calling.specs.Scratch.{Kept}
-use Rattle.scalars.specs.Connectives.{connective, Says, settled, undecided, off as not_said, TestsLeft}
+use Rattle.scalars.specs.Connectives.{connective, Test, TestsLeft}
 use Rattle.meaning.specs.State.{State}
 use Rattle.meaning.specs.Meaning.{at, is_true, right_of}
-use Rattle.evaluator.specs.declared.Outcome.TheVariants.{Value as HasValue}
+use Rattle.evaluator.specs.Contract.{has_value, refusal_at}
 use Rattle.parts.specs.declared.words.Env.{Env}
-use Rattle.evaluator.specs.declared.Truth.{Truth}
-use Rattle.evaluator.specs.declared.Truth.TheVariants.{True, False, Other}
+use Rattle.std.specs.declared.option.Option.{Option as Maybe}
+use Rattle.std.specs.Prelude.{Some, None, Ok}
 use Rattle.evaluator.specs.Contract.{Evaluated, Ask, Gives, meant, level, operator_at}
 use Rattle.evaluator.specs.Leaves.{Tells, of_two, OfTwo, Strict}
 use Rattle.evaluator.specs.Building.{Enumerated}
 use Rattle.evaluator.specs.Binding.{Remaining}
-use Rattle.evaluator.specs.Word.{ending, word_of, applied_word}
-use Rattle.evaluator.proofs.Wording.{word_applied, decoded, as_word, refused_at}
-use Rattle.evaluator.proofs.Tables.{fine_of, small_place, has_operand, has_field, lower_down, unary_number, binary_number}
+use Rattle.std.specs.Prelude.{Err}
+use Rattle.std.specs.declared.result.Result.{Result}
+use Rattle.prelude.specs.declared.Refusal.{Refusal}
+use Rattle.prelude.specs.declared.Refusal.TheVariants.{WrongKind}
+use Rattle.evaluator.specs.Contract.{Ended, ended, at_record}
+use Rattle.evaluator.proofs.Coming.{as_ended}
+use Rattle.evaluator.proofs.Tables.{fine_of, has_operand, has_field, lower_down, unary_number, binary_number}
 use Rattle.evaluator.proofs.Equations.{mean_unary, mean_binary, mean_two, mean_logic, mean_if, mean_pattern, mean_nothing}
 use Rattle.evaluator.proofs.Giving.{gives_refused, gives_stop, gives_at, gives_one, gives_both, gives_second_off, ask_first, ask_next, single_held, two-held, logic_settled, logic_refused, logic_right_off, logic_right, if_other, if_true, if_false}
 
@@ -53,42 +54,40 @@ pub strictly : (table : List ℕ) (r : ℕ) {k op : ℕ} → OneOf (5 ∷ 11 ∷
 strictly table r (inl x) o n = inl (x, o, n x)
 strictly table r (inr x) o n = inr x
 
-module _ {table index : List ℕ} {r : ℕ} {s : List ℕ} {base : ℕ} {env : Env} {c : Choices} (a : Ask table index r s base env c) where
+module _ {table : List ℕ} {r : ℕ} {s : List ℕ} {base : ℕ} {env : Env} {c : Choices} (a : Ask table r s base env c) where
   -- operand i, of a record that has one
-  pub first_asked : {i b : ℕ} → HasOperand table index r i → b ≡ operand (record_at (records table) r) i → (b < r) × Ask table index b s base env c
+  pub first_asked : {i b : ℕ} → HasOperand table r i → b ≡ operand (record_at (records table) r) i → (b < r) × Ask table b s base env c
   first_asked {i} h d = (lower_down a i h.has d, ask_first a i h.has d)
 
-  pub next_asked : {ma : State → Tree Value} {i b : ℕ} {t u : List ℕ} {e : Evaluated} (base' : ℕ) → HasOperand table index r i → b ≡ operand (record_at (records table) r) i → Gives ma (At t base) s t base env c e → Kept t u base → base ≤ base' → base' ≤ base + level → (b < r) × Ask table index b u base' env e.choices
+  pub next_asked : {ma : State → Tree Value} {i b : ℕ} {t u : List ℕ} {e : Evaluated} (base' : ℕ) → HasOperand table r i → b ≡ operand (record_at (records table) r) i → Gives ma (At t base) s t base env c e → Kept t u base → base ≤ base' → base' ≤ base + level → (b < r) × Ask table b u base' env e.choices
   next_asked {i = i} base' h d k l m n = (lower_down a i h.has d, ask_next a k i h.has d l m n)
 
   -- 4
   module _ (d : kind_at (records table) r ≡ 4) where
-    pub unary_has : HasOperand table index r 0
+    pub unary_has : HasOperand table r 0
     unfolding shape
     unary_has = has_operand a d 0 (omega arith)
 
-    pub unary_field : HasField table index r 0
+    pub unary_field : HasField table r 0
     unfolding shape
     unary_field = has_field a d 0 (omega arith)
 
     module _ {b : ℕ} (q : b ≡ operand (record_at (records table) r) 0) {t : List ℕ} {e : Evaluated} (k : Gives (meant table b) (At t base) s t base env c e) where
-      pub unary_off : (e.outcome ≡ HasValue → ⊥) → Gives (meant table r) (At t base) s t base env c e
+      pub unary_off : (e.outcome ≡ has_value → ⊥) → Gives (meant table r) (At t base) s t base env c e
       unary_off h = gives_stop (gives_at table q k) (λ ρ v. at r (unary (operator_at table r) v)) h (λ ρ. mean_unary a.legal r ρ d)
 
-      module _ (h : e.outcome ≡ HasValue) {n : ℕ} (o : n ≡ operator_at table r) where
+      module _ (h : e.outcome ≡ has_value) {n : ℕ} (o : n ≡ operator_at table r) where
         pub unary_held : One t base × Unary n
         unary_held = (single_held a k h, subst Unary (sym o) (unary_number a d))
 
-        pub unary_done : {u : List ℕ} {x : Applied} {w : ℕ} → OnOne (unary n) t u base x → w ≡ applied_word x r → Gives (meant table r) (At u base) s u base env c (ending w e.choices)
+        pub unary_done : {u : List ℕ} {x : Applied} {z : Ended} → OnOne (unary n) t u base x → z ≡ at_record x r → Gives (meant table r) (At u base) s u base env c (ended z e.choices)
         unary_done {u} {x} f g =
-            let v = (single_held a k h).held in
-            gives_one a (gives_at table q k) (unary (operator_at table r)) h (subst (λ (m : ℕ). OnOne (unary m) t u base x) o f)
-            (word_applied (f.right v.value v.here) (unary_fine n v.value v.here.fine) (small_place a) g) (λ ρ. mean_unary a.legal r ρ d)
+            gives_one a (gives_at table q k) (unary (operator_at table r)) h (subst (λ (m : ℕ). OnOne (unary m) t u base x) o f) g (λ ρ. mean_unary a.legal r ρ d)
 
-  first_field : HasOperand table index r 0 → HasField table index r 0
+  first_field : HasOperand table r 0 → HasField table r 0
   first_field h = record { here = h.here; has = omega (arith, h.has, named_count (record_at (records table) r) ((fine_of a.legal).fit r a.within)) }
 
-  pub two_field : {k : ℕ} → kind_at (records table) r ≡ k → OneOf (5 ∷ 11 ∷ 21 ∷ []) k → HasField table index r 0
+  pub two_field : {k : ℕ} → kind_at (records table) r ≡ k → OneOf (5 ∷ 11 ∷ 21 ∷ []) k → HasField table r 0
   unfolding shape
   two_field d (inl x) = has_field a (d ∙ x) 0 (omega arith)
   two_field d (inr (inl x)) = first_field (has_operand a (d ∙ x) 0 (omega arith))
@@ -96,19 +95,19 @@ module _ {table index : List ℕ} {r : ℕ} {s : List ℕ} {base : ℕ} {env : E
 
   -- 5, 11, 21
   module _ {k op : ℕ} (d : kind_at (records table) r ≡ k) (w : Strict table r k op) where
-    two_has : (i : ℕ) → i < 2 → HasOperand table index r i
+    two_has : (i : ℕ) → i < 2 → HasOperand table r i
     unfolding shape
     two_has i l = go w
       where
-        go : Strict table r k op → HasOperand table index r i
+        go : Strict table r k op → HasOperand table r i
         go (inl x) = has_operand a (d ∙ x.0) i l
         go (inr (inl x)) = has_operand a (d ∙ x) i l
         go (inr (inr x)) = has_operand a (d ∙ x) i l
 
-    pub binary_left : HasOperand table index r 0
+    pub binary_left : HasOperand table r 0
     binary_left = two_has 0 (omega arith)
 
-    pub binary_right : HasOperand table index r 1
+    pub binary_right : HasOperand table r 1
     binary_right = two_has 1 (omega arith)
 
     two_means : (ρ : State) → meant table r ρ ≡ bind (meant table (operand (record_at (records table) r) 0) ρ) (λ v. bind (meant table (operand (record_at (records table) r) 1) ρ) (λ y. at r (of_two k op v y)))
@@ -135,29 +134,26 @@ module _ {table index : List ℕ} {r : ℕ} {s : List ℕ} {base : ℕ} {env : E
         go (inr x) = inr x
 
     module _ {b : ℕ} (q : b ≡ operand (record_at (records table) r) 0) {t : List ℕ} {e : Evaluated} (g : Gives (meant table b) (At t base) s t base env c e) where
-      pub binary_off : (e.outcome ≡ HasValue → ⊥) → Gives (meant table r) (At t base) s t base env c e
+      pub binary_off : (e.outcome ≡ has_value → ⊥) → Gives (meant table r) (At t base) s t base env c e
       binary_off h = gives_stop (gives_at table q g) (λ ρ v. bind (meant table (operand (record_at (records table) r) 1) ρ) (λ y. at r (of_two k op v y))) h two_means
 
-      module _ (h : e.outcome ≡ HasValue) {b' : ℕ} (q' : b' ≡ operand (record_at (records table) r) 1) {u : List ℕ} {f : Evaluated} (g' : Gives (meant table b') (At u (base + 512)) t u (base + 512) env e.choices f) where
-        pub binary_off_right : (f.outcome ≡ HasValue → ⊥) → Gives (meant table r) (At u base) s u base env c f
+      module _ (h : e.outcome ≡ has_value) {b' : ℕ} (q' : b' ≡ operand (record_at (records table) r) 1) {u : List ℕ} {f : Evaluated} (g' : Gives (meant table b') (At u (base + 512)) t u (base + 512) env e.choices f) where
+        pub binary_off_right : (f.outcome ≡ has_value → ⊥) → Gives (meant table r) (At u base) s u base env c f
         binary_off_right h' = gives_second_off a (gives_at table q g) (gives_at table q' g') (λ ρ v y. at r (of_two k op v y)) h h' two_means
 
-        pub binary_held : f.outcome ≡ HasValue → Two u base × OfTwo k op
+        pub binary_held : f.outcome ≡ has_value → Two u base × OfTwo k op
         binary_held h' = (two-held a g g' h h', two_of)
 
-        pub binary_done : {x : List ℕ} {y : Applied} {z : ℕ} → f.outcome ≡ HasValue → OnTwo (of_two k op) u x base y → z ≡ applied_word y r → Gives (meant table r) (At x base) s x base env c (ending z f.choices)
-        binary_done h' o z =
-            let two = two-held a g g' h h' in
-            gives_both a (gives_at table q g) (gives_at table q' g') (of_two k op) h h' o
-            (word_applied (o.right two.left.value two.right.value two.left.here two.right.here) (two_fine two.left.value two.right.value two.left.here.fine two.right.here.fine) (small_place a) z) two_means
+        pub binary_done : {x : List ℕ} {y : Result (Unit {0}) Refusal} {z : Ended} → f.outcome ≡ has_value → OnTwo (of_two k op) u x base y → z ≡ at_record y r → Gives (meant table r) (At x base) s x base env c (ended z f.choices)
+        binary_done h' o z = gives_both a (gives_at table q g) (gives_at table q' g') (of_two k op) h h' o z two_means
 
   -- 5: and, or, =>
   module _ (d : kind_at (records table) r ≡ 5) where
-    pub logic_left : HasOperand table index r 0
+    pub logic_left : HasOperand table r 0
     unfolding shape
     logic_left = has_operand a d 0 (omega arith)
 
-    pub logic_next : HasOperand table index r 1
+    pub logic_next : HasOperand table r 1
     unfolding shape
     logic_next = has_operand a d 1 (omega arith)
 
@@ -170,51 +166,40 @@ module _ {table index : List ℕ} {r : ℕ} {s : List ℕ} {base : ℕ} {env : E
             ∙ ap (λ (m : ℕ). bind (meant table (operand (record_at (records table) r) 0) ρ) (λ v. right_of (meant table) r (operand (record_at (records table) r) 1) ρ (left (connective m) v))) (sym o)
             ∙ ap (λ (x : ℕ). bind (meant table x ρ) (λ v. right_of (meant table) r (operand (record_at (records table) r) 1) ρ (left (connective n) v))) (sym q)
 
-        pub logic_off : (e.outcome ≡ HasValue → ⊥) → Gives (meant table r) (At t base) s t base env c e
+        pub logic_off : (e.outcome ≡ has_value → ⊥) → Gives (meant table r) (At t base) s t base env c e
         logic_off h = gives_stop k (λ ρ v. right_of (meant table) r (operand (record_at (records table) r) 1) ρ (left (connective n) v)) h equation
 
-        pub logic_held : e.outcome ≡ HasValue → One t base × (1 ≤ n) × (n ≤ 3)
+        pub logic_held : e.outcome ≡ has_value → One t base × (1 ≤ n) × (n ≤ 3)
         logic_held h = (single_held a k h, omega (arith, (binary_number a d).0), l)
 
-        module _ (h : e.outcome ≡ HasValue) {u : List ℕ} {x : Tested} (g : TestsLeft (connective n) t u base x) where
-          pub logic_done : x ≡ Settled → Gives (meant table r) (At u base) s u base env c e
+        module _ (h : e.outcome ≡ has_value) {u : List ℕ} {x : Test} (g : TestsLeft (connective n) t u base x) where
+          pub logic_done : x ≡ Ok Settled → Gives (meant table r) (At u base) s u base env c e
           logic_done z = logic_settled a k n h g (meant table) (operand (record_at (records table) r) 1) equation z
 
-          left_small : (j : ℕ) → x ≡ Off j → j < 65536
-          left_small j z = let v = (single_held a k h).held in go (left_fine (connective n) v.value) (g.right v.value v.here)
-            where
-              go : {l : Left} → FineLeft l → Says u base x l → j < 65536
-              go f (settled y i) = let y' = sym y ∙ z in impossible cc
-              go f (undecided y) = let y' = sym y ∙ z in impossible cc
-              go f (not_said {n = i} y) = let y' = sym y ∙ z in let e' : i ≡ j = cc in omega (arith, f.1)
+          pub logic_bad : {y : Refusal} → x ≡ Err y → {w : Ended} → w ≡ Err (refusal_at y r) → Gives (meant table r) (At u base) s u base env c (ended w e.choices)
+          logic_bad {y = m} z y = as_ended y (logic_refused a k n h g (meant table) (operand (record_at (records table) r) 1) equation m z)
 
-          pub logic_bad : (j : ℕ) → x ≡ Off j → {w : ℕ} → w ≡ word_of j r 0 → Gives (meant table r) (At u base) s u base env c (ending w e.choices)
-          logic_bad j z {w} y = as_word w (decoded (left_small j z) (small_place a) (omega arith) y) (logic_refused a k n h g (meant table) (operand (record_at (records table) r) 1) equation j z)
-
-          module _ (z : x ≡ Open) {b' : ℕ} (q' : b' ≡ operand (record_at (records table) r) 1) {w : List ℕ} {f : Evaluated} (k' : Gives (meant table b') (At w base) u w base env e.choices f) where
-            pub logic_off_right : (f.outcome ≡ HasValue → ⊥) → Gives (meant table r) (At w base) s w base env c f
+          module _ (z : x ≡ Ok Open) {b' : ℕ} (q' : b' ≡ operand (record_at (records table) r) 1) {w : List ℕ} {f : Evaluated} (k' : Gives (meant table b') (At w base) u w base env e.choices f) where
+            pub logic_off_right : (f.outcome ≡ has_value → ⊥) → Gives (meant table r) (At w base) s w base env c f
             logic_off_right h' = logic_right_off a k n h g (meant table) (operand (record_at (records table) r) 1) equation z (gives_at table q' k') h'
 
-            pub logic_right_held : f.outcome ≡ HasValue → One w base
+            pub logic_right_held : f.outcome ≡ has_value → One w base
             logic_right_held h' = single_held (next_asked base logic_next q' k g.kept (omega arith) (omega arith)).1 k' h'
 
-            pub logic_both : {x' : Applied} {z' : ℕ} → f.outcome ≡ HasValue → OnOne right w w base x' → z' ≡ applied_word x' r → Gives (meant table r) (At w base) s w base env c (ending z' f.choices)
-            logic_both h' o' y =
-                let v = (logic_right_held h').held in
-                logic_right a k n h g (meant table) (operand (record_at (records table) r) 1) equation z (gives_at table q' k') h' o'
-                (word_applied (o'.right v.value v.here) (right_fine v.value) (small_place a) y)
+            pub logic_both : {x' : Applied} {z' : Ended} → f.outcome ≡ has_value → OnOne right w w base x' → z' ≡ at_record x' r → Gives (meant table r) (At w base) s w base env c (ended z' f.choices)
+            logic_both h' o' = logic_right a k n h g (meant table) (operand (record_at (records table) r) 1) equation z (gives_at table q' k') h' o'
 
   -- 6
   module _ (d : kind_at (records table) r ≡ 6) where
-    pub if_test : HasOperand table index r 0
+    pub if_test : HasOperand table r 0
     unfolding shape
     if_test = has_operand a d 0 (omega arith)
 
-    pub if_then : HasOperand table index r 1
+    pub if_then : HasOperand table r 1
     unfolding shape
     if_then = has_operand a d 1 (omega arith)
 
-    pub if_else : HasOperand table index r 2
+    pub if_else : HasOperand table r 2
     unfolding shape
     if_else = has_operand a d 2 (omega arith)
 
@@ -225,22 +210,22 @@ module _ {table index : List ℕ} {r : ℕ} {s : List ℕ} {base : ℕ} {env : E
       abbrev elses : State → Tree Value
       elses ρ = meant table (operand (record_at (records table) r) 2) ρ
 
-      pub if_off : (e.outcome ≡ HasValue → ⊥) → Gives (meant table r) (At t base) s t base env c e
+      pub if_off : (e.outcome ≡ has_value → ⊥) → Gives (meant table r) (At t base) s t base env c e
       if_off h = gives_stop (gives_at table q k) (λ ρ v. bind (is_true r v) (λ y. cond y (thens ρ) (elses ρ))) h (λ ρ. mean_if a.legal r ρ d)
 
-      module _ (h : e.outcome ≡ HasValue) {x : Truth} (o : Tells t base x) where
-        pub if_bad : x ≡ Other → {w : ℕ} → w ≡ word_of 20 r 0 → Gives (meant table r) (At t base) s t base env c (ending w e.choices)
-        if_bad z y = refused_at 20 (omega arith) a y (if_other a (gives_at table q k) x thens elses h o (λ ρ. mean_if a.legal r ρ d) z)
+      module _ (h : e.outcome ≡ has_value) {x : Maybe Bool} (o : Tells t base x) where
+        pub if_bad : x ≡ None → {w : Ended} → w ≡ Err (refusal_at WrongKind r) → Gives (meant table r) (At t base) s t base env c (ended w e.choices)
+        if_bad z y = as_ended y (if_other a (gives_at table q k) x thens elses h o (λ ρ. mean_if a.legal r ρ d) z)
 
-        pub if_yes : {b' : ℕ} {u : List ℕ} {f : Evaluated} → x ≡ True → b' ≡ operand (record_at (records table) r) 1 → Gives (meant table b') (At u base) t u base env e.choices f → Gives (meant table r) (At u base) s u base env c f
+        pub if_yes : {b' : ℕ} {u : List ℕ} {f : Evaluated} → x ≡ Some true → b' ≡ operand (record_at (records table) r) 1 → Gives (meant table b') (At u base) t u base env e.choices f → Gives (meant table r) (At u base) s u base env c f
         if_yes z q' k' = if_true a (gives_at table q k) x thens elses h o (λ ρ. mean_if a.legal r ρ d) z (gives_at table q' k')
 
-        pub if_no : {b' : ℕ} {u : List ℕ} {f : Evaluated} → x ≡ False → b' ≡ operand (record_at (records table) r) 2 → Gives (meant table b') (At u base) t u base env e.choices f → Gives (meant table r) (At u base) s u base env c f
+        pub if_no : {b' : ℕ} {u : List ℕ} {f : Evaluated} → x ≡ Some false → b' ≡ operand (record_at (records table) r) 2 → Gives (meant table b') (At u base) t u base env e.choices f → Gives (meant table r) (At u base) s u base env c f
         if_no z q' k' = if_false a (gives_at table q k) x thens elses h o (λ ρ. mean_if a.legal r ρ d) z (gives_at table q' k')
 
   -- what is left are patterns
-  pub eval_last : {k : ℕ} → k ≡ kind_at (records table) r → (k ≡ 0) ⊎ (23 ≤ k) → {y : ℕ} → y ≡ word_of 20 r 0 → Gives (meant table r) (At s base) s s base env c (ending y c)
-  eval_last {k} d w e = refused_at 20 (omega arith) a e (gives_refused 20 r a (λ ρ. go ρ w))
+  pub eval_last : {k : ℕ} → k ≡ kind_at (records table) r → (k ≡ 0) ⊎ (23 ≤ k) → {y : Ended} → y ≡ Err (refusal_at WrongKind r) → Gives (meant table r) (At s base) s s base env c (ended y c)
+  eval_last {k} d w e = as_ended e (gives_refused WrongKind r a (λ ρ. go ρ w))
     where
       go : (ρ : State) → (k ≡ 0) ⊎ (23 ≤ k) → meant table r ρ ≡ stop 20 r
       go ρ (inl h) = mean_nothing a.legal r ρ (sym d ∙ h)

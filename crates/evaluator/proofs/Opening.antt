@@ -10,7 +10,7 @@ use Rattle.patterns.specs.Binding.{Binding}
 use Rattle.calling.specs.Scratch.{Kept}
 use Rattle.calling.proofs.Framing.{kept_then}
 use Rattle.meaning.specs.State.{State}
-use Rattle.evaluator.specs.declared.Outcome.TheVariants.{Value as HasValue}
+use Rattle.evaluator.specs.Contract.{has_value}
 use Rattle.parts.specs.declared.words.Env.{Env}
 use Rattle.evaluator.specs.Binding.{Placed, wholly, listed, Standing, Begins}
 use Rattle.evaluator.specs.Contract.{Ask, Evaluated, ended, Comes, gave, off, Gives}
@@ -25,16 +25,16 @@ leads_comes l (gave o p w) = gave o p (record { right = l.same ∙ w.right; soun
 leads_comes l (off o w) = off o (record { right = l.same ∙ w.right; sound = w.sound })
 
 -- A record can be asked of again after a change above its base.
-pub ask_again : {table index : List ℕ} {r : ℕ} {s t : List ℕ} {base : ℕ} {env : Env} {c d : Choices} → Ask table index r s base env c → Kept s t base → Invariant d → Ask table index r t base env d
+pub ask_again : {table : List ℕ} {r : ℕ} {s t : List ℕ} {base : ℕ} {env : Env} {c d : Choices} → Ask table r s base env c → Kept s t base → Invariant d → Ask table r t base env d
 ask_again a k l =
     record { legal = a.legal; within = a.within; room = omega (arith, a.room, k.long); low = omega (arith, a.low, k.long); state = a.state; around = around_kept k a.around; sound = l }
 
-module _ {table index : List ℕ} {r : ℕ} (k : ℕ) {s : List ℕ} {base : ℕ} {env : Env} {c : Choices} (a : Ask table index r s base env c) {t : List ℕ} {x : Placed} {d : Choices} (g : Begins table r k s t base env c x d) where
-  pub opened_off : {m : State → Tree Value} {P : Value → Type 0} (after : State → List Binding → Tree Value) → ((ρ : State) → m ρ ≡ bind (listed table r k ρ) (after ρ)) → (x.outcome ≡ HasValue → ⊥) → Gives m P s t base env c (ended x.outcome d)
+module _ {table : List ℕ} {r : ℕ} (k : ℕ) {s : List ℕ} {base : ℕ} {env : Env} {c : Choices} (a : Ask table r s base env c) {t : List ℕ} {x : Placed} {d : Choices} (g : Begins table r k s t base env c x d) where
+  pub opened_off : {m : State → Tree Value} {P : Value → Type 0} (after : State → List Binding → Tree Value) → ((ρ : State) → m ρ ≡ bind (listed table r k ρ) (after ρ)) → (x.outcome ≡ has_value → ⊥) → Gives m P s t base env c (ended x.outcome d)
   opened_off after q h = record { kept = g.kept; right = λ ρ u. comes_as (q ρ) (comes_stop (after ρ) (g.right ρ u) h) }
 
-  module _ (h : x.outcome ≡ HasValue) where
-    pub opened_asked : Ask table index r t base env d
+  module _ (h : x.outcome ≡ has_value) where
+    pub opened_asked : Ask table r t base env d
     opened_asked = ask_again a g.kept (comes_sound (g.right a.state a.around))
 
     pub opened_standing : (bs : List Binding) × Standing table r (wholly k) t base x.cursor bs

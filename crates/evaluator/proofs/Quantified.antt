@@ -16,7 +16,7 @@ use Rattle.patterns.specs.Binding.{Binding, nothing}
 use Rattle.calling.specs.Scratch.{Kept}
 use Rattle.calling.proofs.Framing.{kept_then, kept_less, kept_same, put_kept}
 use Rattle.meaning.specs.State.{State}
-use Rattle.evaluator.specs.declared.Outcome.TheVariants.{Value as HasValue}
+use Rattle.evaluator.specs.Contract.{has_value}
 use Rattle.bindings.specs.declared.Cursor.{Cursor}
 use Rattle.parts.specs.declared.words.Env.{Env}
 use Rattle.evaluator.specs.Binding.{Placed, Held, Binder, quantified, wholly, Standing, Begins, Stands, Turned, holds_in, Tests}
@@ -30,8 +30,8 @@ use Rattle.evaluator.proofs.Meant.{scan_in, mean_quantifier}
 use Rattle.evaluator.proofs.Opening.{leads_comes, ask_again, opened_off, opened_asked, opened_standing, opened_on}
 
 -- From s₀ and c₀, where the bindings stood open, up to binding j.
-pub record Scans (table index : List ℕ) (r : ℕ) (s₀ : List ℕ) (base : ℕ) (env : Env) (want : Bool) (c₀ : Choices) (n : ℕ) (s : List ℕ) (c : Choices) (cursor : Cursor) (found : Bool) (j : ℕ) : Type 0 where
-  pub asked : Ask table index r s₀ base env c₀
+pub record Scans (table : List ℕ) (r : ℕ) (s₀ : List ℕ) (base : ℕ) (env : Env) (want : Bool) (c₀ : Choices) (n : ℕ) (s : List ℕ) (c : Choices) (cursor : Cursor) (found : Bool) (j : ℕ) : Type 0 where
+  pub asked : Ask table r s₀ base env c₀
   pub binder : Binder (kind_at (records table) r)
   pub bindings : List Binding
   pub only : (k : Cursor) (bs : List Binding) → Standing table r false s₀ base k bs → bs ≡ bindings
@@ -50,8 +50,8 @@ pub record Settled (table : List ℕ) (r : ℕ) (s₀ : List ℕ) (base : ℕ) (
   pub kept : Kept s₀ s base
   pub right : (ρ : State) → Around s₀ base env ρ → Leads (scan_in table r ρ want bindings) c₀ (give (boolean answer)) c
 
-scans_start : {table index : List ℕ} {r : ℕ} {s : List ℕ} {base : ℕ} {env : Env} {want : Bool} {c : Choices} {n : ℕ} {cursor : Cursor} {bs : List Binding} → Ask table index r s base env c → Binder (kind_at (records table) r)
-    → Standing table r false s base cursor bs → n ≡ cursor.count → Scans table index r s base env want c n s c cursor (not want) 0
+scans_start : {table : List ℕ} {r : ℕ} {s : List ℕ} {base : ℕ} {env : Env} {want : Bool} {c : Choices} {n : ℕ} {cursor : Cursor} {bs : List Binding} → Ask table r s base env c → Binder (kind_at (records table) r)
+    → Standing table r false s base cursor bs → n ≡ cursor.count → Scans table r s base env want c n s c cursor (not want) 0
 scans_start {s = s} {base = base} {bs = bs} a b h e =
     record {
       asked = a;
@@ -67,7 +67,7 @@ scans_start {s = s} {base = base} {bs = bs} a b h e =
       right = λ ρ u. leads_start a.sound refl;
     }
 
-module _ {table index : List ℕ} {r : ℕ} {s₀ : List ℕ} {base : ℕ} {env : Env} {want : Bool} {c₀ : Choices} {n : ℕ} {s : List ℕ} {c : Choices} {cursor : Cursor} {found : Bool} {j : ℕ} (b : Scans table index r s₀ base env want c₀ n s c cursor found j) where
+module _ {table : List ℕ} {r : ℕ} {s₀ : List ℕ} {base : ℕ} {env : Env} {want : Bool} {c₀ : Choices} {n : ℕ} {s : List ℕ} {c : Choices} {cursor : Cursor} {found : Bool} {j : ℕ} (b : Scans table r s₀ base env want c₀ n s c cursor found j) where
   low : Kept s₀ s base
   low = kept_less (omega arith) b.kept
 
@@ -82,7 +82,7 @@ module _ {table index : List ℕ} {r : ℕ} {s₀ : List ℕ} {base : ℕ} {env 
       })
 
   module _ (l : j < n) where
-    pub scans_stands : Stands table index r false s base env c cursor j
+    pub scans_stands : Stands table r false s base env c cursor j
     scans_stands = record { asked = ask_again b.asked low b.sound; binder = b.binder; bindings = b.bindings; standing = b.standing; below = omega (arith, b.count) }
 
     module _ {t : List ℕ} {h : Held} {d : Choices} (o : Tests table r s t base env c cursor j h d) where
@@ -100,14 +100,14 @@ module _ {table index : List ℕ} {r : ℕ} {s₀ : List ℕ} {base : ℕ} {env 
       sound_now : Invariant d
       sound_now = comes_sound (tested b.asked.state b.asked.around)
 
-      pub scans_off : (h.outcome ≡ HasValue → ⊥) → {P : Value → Type 0} → Gives (λ ρ. scan_in table r ρ want b.bindings) P s₀ t base env c₀ (ended h.outcome d)
+      pub scans_off : (h.outcome ≡ has_value → ⊥) → {P : Value → Type 0} → Gives (λ ρ. scan_in table r ρ want b.bindings) P s₀ t base env c₀ (ended h.outcome d)
       scans_off x {P} = record { kept = kept_then low turned.given.kept; right = λ ρ u. go ρ (opened ρ u) (tested ρ u) }
         where
           go : (ρ : State) → Leads (scan_in table r ρ want b.bindings) c₀ (scan_in table r ρ want (get_or b.bindings j nothing ∷ drop (j + 1) b.bindings)) c → Comes (holds_in table r ρ (get_or b.bindings j nothing)) (λ y. h.yes ≡ y) c (ended h.outcome d) → Comes (scan_in table r ρ want b.bindings) P c₀ (ended h.outcome d)
           go ρ k (gave y p w) = absurd (x y)
           go ρ k (off y w) = off y (scan_off want (meant table) r (operand_at table r 2) ρ (get_or b.bindings j nothing) (drop (j + 1) b.bindings) k w)
 
-      module _ (v : h.outcome ≡ HasValue) where
+      module _ (v : h.outcome ≡ has_value) where
         pub scans_hit : h.yes ≡ want → Settled table r s₀ base env want c₀ t d want
         scans_hit x = record { bindings = b.bindings; only = b.only; kept = kept_then low turned.given.kept; right = λ ρ u. go ρ (opened ρ u) (tested ρ u) }
           where
@@ -115,7 +115,7 @@ module _ {table index : List ℕ} {r : ℕ} {s₀ : List ℕ} {base : ℕ} {env 
             go ρ k (gave y p w) = scan_settled want (meant table) r (operand_at table r 2) ρ (get_or b.bindings j nothing) (drop (j + 1) b.bindings) k w (sym p ∙ x)
             go ρ k (off y w) = value_refused v y
 
-        pub scans_more : h.yes ≡ not want → {j' : ℕ} {cursor' : Cursor} → j' ≡ j + 1 → cursor' ≡ h.cursor → Scans table index r s₀ base env want c₀ n t d cursor' found j'
+        pub scans_more : h.yes ≡ not want → {j' : ℕ} {cursor' : Cursor} → j' ≡ j + 1 → cursor' ≡ h.cursor → Scans table r s₀ base env want c₀ n t d cursor' found j'
         scans_more x {j'} {cursor'} z y =
             record {
               asked = b.asked;
@@ -144,7 +144,7 @@ settled_as {table} {r} {s₀} {base} {env} {want} {c₀} {s} {s'} {c} {c'} {f} {
 
 -- ---- from the start of the record
 
-module _ {table index : List ℕ} {r : ℕ} {s : List ℕ} {base : ℕ} {env : Env} {c : Choices} (a : Ask table index r s base env c) (want : Bool) (d : kind_at (records table) r ≡ quantified want)
+module _ {table : List ℕ} {r : ℕ} {s : List ℕ} {base : ℕ} {env : Env} {c : Choices} (a : Ask table r s base env c) (want : Bool) (d : kind_at (records table) r ≡ quantified want)
     {t : List ℕ} {x : Placed} {c₁ : Choices} (g : Begins table r (quantified want) s t base env c x c₁) where
   quant_binder : Binder (kind_at (records table) r)
   quant_binder = subst Binder (sym d) (go want)
@@ -160,11 +160,11 @@ module _ {table index : List ℕ} {r : ℕ} {s : List ℕ} {base : ℕ} {env : E
       go true = refl
       go false = refl
 
-  pub quantify_off : (x.outcome ≡ HasValue → ⊥) → Evaluates table r s t base env c (ended x.outcome c₁)
+  pub quantify_off : (x.outcome ≡ has_value → ⊥) → Evaluates table r s t base env c (ended x.outcome c₁)
   quantify_off h = opened_off (quantified want) a g (λ ρ. scan_in table r ρ want) (λ ρ. mean_quantifier a.legal r ρ want d) h
 
-  module _ (h : x.outcome ≡ HasValue) where
-    pub quantify_start : {n : ℕ} → n ≡ x.cursor.count → Scans table index r t base env want c₁ n t c₁ x.cursor (not want) 0
+  module _ (h : x.outcome ≡ has_value) where
+    pub quantify_start : {n : ℕ} → n ≡ x.cursor.count → Scans table r t base env want c₁ n t c₁ x.cursor (not want) 0
     quantify_start e =
         let (bs, w) = opened_standing (quantified want) a g h in
         scans_start (opened_asked (quantified want) a g h) quant_binder (subst (λ (y : Bool). Standing table r y t base x.cursor bs) not_whole w) e

@@ -36,7 +36,7 @@ condition_there k l m =
       leb-true 3 (shape k).least (implied (leb 13 k && leb k 20) _ (all_kinds (λ k. not (leb 13 k && leb k 20) || leb 3 (shape k).least) 41 refl k (omega arith)) t),
     )
 
-module _ {table index : List ℕ} (L : Legal table index) where
+module _ {table : List ℕ} (L : Legal table) where
   abbrev rs : List Record
   rs = records table
 

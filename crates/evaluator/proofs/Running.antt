@@ -13,8 +13,7 @@ use Rattle.patterns.specs.Binding.{free}
 use Rattle.parts.specs.declared.words.Env.{Env}
 use Rattle.parts.specs.Word.{unpacked}
 use Rattle.meaning.specs.State.{unbound}
-use Rattle.evaluator.specs.declared.Outcome.{Outcome}
-use Rattle.evaluator.specs.Contract.{Evaluated, ended, Around, Ask, Comes, Evaluates, meant}
+use Rattle.evaluator.specs.Contract.{Evaluated, Around, Ask, Comes, Evaluates, meant}
 use Rattle.evaluator.specs.Sheet.{Runnable, Runs}
 
 nothing_around : (s : List ℕ) {env : Env} → env.words ≡ replicate 16 0 → Around s 0 env unbound
@@ -25,18 +24,18 @@ nothing_around s {env} e =
       cells = λ x h. inl (ap (λ (n : ℕ). (unpacked n).how) (ap (λ (l : List ℕ). get_or l x 0) e ∙ get_or-replicate 16 x 0 0 h), get_or-replicate 16 x free free h);
     }
 
-module _ {table index : List ℕ} {count : ℕ} {s : List ℕ} {c : Choices} (a : Runnable table index count s c) where
+module _ {table : List ℕ} {count : ℕ} {s : List ℕ} {c : Choices} (a : Runnable table count s c) where
   counted : length (records table) ≡ count
   counted = sym (accepted_fine table count a.accepted).1
 
   pub run_some : 1 ≤ count
   run_some = omega (arith, (accepted_fine table count a.accepted).0.some_record, counted)
 
-  pub run_asks : {env : Env} {r : ℕ} → env.words ≡ replicate 16 0 → r ≡ count - 1 → Ask table index r s 0 env c
+  pub run_asks : {env : Env} {r : ℕ} → env.words ≡ replicate 16 0 → r ≡ count - 1 → Ask table r s 0 env c
   run_asks {env} {r} e q =
       let l : r < length (records table) = omega (arith, counted, run_some) in
       record {
-        legal = record { count = count; ok = a.accepted; indexed = a.indexed };
+        legal = record { count = count; ok = a.accepted };
         within = l;
         room = omega (arith, height_most (records table) (accepted_fine table count a.accepted).0 r l, a.room);
         low = omega (arith, a.room);
@@ -49,7 +48,3 @@ module _ {table index : List ℕ} {count : ℕ} {s : List ℕ} {c : Choices} (a 
   run_done {env} {r} {t} {e} w q g =
       let z : r ≡ length (records table) - 1 = omega (arith, counted) in
       subst (λ (n : ℕ). Comes (meant table n unbound) (At t 0) c e) z (g.right unbound (nothing_around s w))
-
--- What a run comes to with an outcome, it comes to with an equal one.
-pub run_told : (table : List ℕ) {t : List ℕ} {c d : Choices} {o p : Outcome} → o ≡ p → Runs table t c (ended p d) → Runs table t c (ended o d)
-run_told table {t} {c} {d} e h = subst (λ (x : Outcome). Runs table t c (ended x d)) (sym e) h

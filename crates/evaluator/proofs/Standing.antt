@@ -98,18 +98,18 @@ binder_least : (k : ℕ) → Binder k → 3 ≤ (shape k).least
 unfolding shape
 binder_least k b = leb-true _ _ (implied (is_binder k) _ (each (λ k. not (is_binder k) || leb 3 (shape k).least) 41 refl k (omega (arith, b.1))) (binder_true b))
 
-module _ {table index : List ℕ} {r : ℕ} {s : List ℕ} {base : ℕ} {env : Env} {c : Choices} (a : Ask table index r s base env c) (b : Binder (kind_at (records table) r)) where
-  pub binder_has : (i : ℕ) → i < 3 → HasOperand table index r i
+module _ {table : List ℕ} {r : ℕ} {s : List ℕ} {base : ℕ} {env : Env} {c : Choices} (a : Ask table r s base env c) (b : Binder (kind_at (records table) r)) where
+  pub binder_has : (i : ℕ) → i < 3 → HasOperand table r i
   binder_has i l =
       record {
         here = here a;
         has = omega (arith, named_count (record_at (records table) r) ((fine_of a.legal).fit r a.within), fit_least (record_at (records table) r) ((fine_of a.legal).fit r a.within), binder_least (kind_at (records table) r) b);
       }
 
-  pub binder_readable : {p : ℕ} → p ≡ operand_at table r 0 → Readable table index p
+  pub binder_readable : {p : ℕ} → p ≡ operand_at table r 0 → Readable table p
   binder_readable {p} e =
       record {
         fine = fine_of a.legal;
-        here = record { indexed = a.legal.indexed; within = omega (arith, a.within, lower_down a 0 (binder_has 0 (omega arith)).has e) };
+        here = omega (arith, a.within, lower_down a 0 (binder_has 0 (omega arith)).has e);
         pattern = ap (λ (x : ℕ). is_pattern (kind_at (records table) x)) e ∙ binder_pattern (records table) (fine_of a.legal) r a.within (binder_true b);
       }

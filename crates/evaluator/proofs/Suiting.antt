@@ -4,15 +4,15 @@ use mathlib.Core.Bool.{Bool, true, false, ◌&&◌, cond}
 use mathlib.Core.Option.{Option, some}
 use mathlib.Core.Logic.{inl, inr}
 use mathlib.Core.List.{List, [], ◌∷◌}
-use Prim.Native.Nat.{ℕ, ◌+◌, ◌≤◌, ◌<◌}
+use Prim.Native.Nat.{ℕ, ◌+◌}
 use lib.Dec.{eqb}
 use borrow.Author.Tests.{eq-eqb, ne_eqb, eqb-true, eqb-false}
 use Rattle.prelude.proofs.Absurd.{impossible}
 use Rattle.integers.specs.Bytes.{word}
 use Rattle.values.specs.Value.{set, Value, kind_of, collection, Items, none, more}
-use Rattle.values.specs.Place.{At, ItemsAt, Holds, HoldsItems}
+use Rattle.values.specs.Place.{At, Holds, HoldsItems}
 use Rattle.values.specs.Contract.{KindAt}
-use Rattle.values.proofs.Records.{one_value, items_to, items_none, Uncons, uncons, is_integer}
+use Rattle.values.proofs.Records.{one_value, items_to, is_integer}
 use Rattle.choices.specs.Tree.{Tree, give, bind}
 use Rattle.operators.specs.Answer.{as_integer, as_set}
 use Rattle.operators.specs.Gather.{every_item}
@@ -22,53 +22,9 @@ use Rattle.parts.proofs.Laws.{as_list}
 use Rattle.calling.proofs.Kinding.{no_kind, the_kind}
 use Rattle.meaning.specs.Meaning.{or_else, integers_at}
 use Rattle.bindings.specs.Window.{Values}
-use Rattle.evaluator.specs.Binding.{wholly, values_for, is_kind, AllOfKind, Suits, fit, unfit}
+use Rattle.gathering.specs.Kinds.{of_kind, AllOfKind}
+use Rattle.evaluator.specs.Binding.{wholly, values_for, Suits, fit, unfit}
 use Rattle.evaluator.proofs.Collecting.{Integers, NotIntegers, integers_all, integers_not}
-
--- ---- the walk over the items
-
--- Those from p on are left, and they are of the kind exactly where all are.
-pub record Left (kind : ℕ) (s : List ℕ) (from to p : ℕ) (vs : Items) : Type 0 where
-  pub rest : Items
-  pub here : ItemsAt s p to rest
-  pub same : every_item (is_kind kind) vs ≡ every_item (is_kind kind) rest
-
-abbrev pub Walks : ℕ → List ℕ → ℕ → ℕ → ℕ → Type 0
-Walks kind s from to p = (vs : Items) → ItemsAt s from to vs → Left kind s from to p vs
-
-pub walk_start : (kind : ℕ) (s : List ℕ) (from to : ℕ) → Walks kind s from to from
-walk_start kind s from to vs h = record { rest = vs; here = h; same = refl }
-
-module _ {kind : ℕ} {s : List ℕ} {from to p : ℕ} {vs : Items} (w : Left kind s from to p vs) where
-  -- The next item, with what code needs to know of its length.
-  pub walk-next : p < to → Uncons s p to w.rest
-  walk-next l = uncons l w.here
-
-  every_more : (v : Value) (us : Items) (b : Bool) → is_kind kind v ≡ b → every_item (is_kind kind) (more v us) ≡ b && every_item (is_kind kind) us
-  unfolding every_item
-  every_more v us b e = ap (λ (x : Bool). x && every_item (is_kind kind) us) e
-
-  is_next : (l : p < to) (b : Bool) → ((v : Value) → At s p v → is_kind kind v ≡ b) → every_item (is_kind kind) vs ≡ b && every_item (is_kind kind) (walk-next l).rest
-  is_next l b f = let y = walk-next l in w.same ∙ ap (every_item (is_kind kind)) y.is ∙ every_more y.first y.rest b (f y.first y.first-at)
-
-  pub walk_fails : p < to → ((v : Value) → At s p v → is_kind kind v ≡ false) → false ≡ every_item (is_kind kind) vs
-  walk_fails l f = sym (is_next l false f)
-
-  pub walk_on : (l : p < to) → ((v : Value) → At s p v → is_kind kind v ≡ true) → (n : ℕ) → n ≡ word s p → Left kind s from to (p + n) vs
-  walk_on l f n e = let y = walk-next l in record { rest = y.rest; here = subst (λ (m : ℕ). ItemsAt s (p + m) to y.rest) (sym e) y.rest_at; same = is_next l true f }
-
-  pub walk_end : to ≤ p → true ≡ every_item (is_kind kind) vs
-  unfolding every_item
-  walk_end l = sym (w.same ∙ ap (every_item (is_kind kind)) (items_none l w.here))
-
--- ---- one item
-
-module _ {kind : ℕ} {s : List ℕ} {at n : ℕ} (read : KindAt s at n) where
-  pub other_kind : (n ≡ kind → ⊥) → (v : Value) → At s at v → is_kind kind v ≡ false
-  other_kind f v a = ne_eqb (kind_of v) kind (λ e. f (read.right v a ∙ e))
-
-  pub same_kind : n ≡ kind → (v : Value) → At s at v → is_kind kind v ≡ true
-  same_kind e v a = eq-eqb (kind_of v) kind (sym (read.right v a) ∙ e)
 
 -- ---- all items
 
@@ -76,20 +32,20 @@ both_true : (a b : Bool) → a && b ≡ true → (a ≡ true) × (b ≡ true)
 both_true true b e = (refl, e)
 both_true false b e = impossible cc
 
-every_integer : (vs : Items) → every_item (is_kind 2) vs ≡ true → Integers vs
+every_integer : (vs : Items) → every_item (of_kind 2) vs ≡ true → Integers vs
 unfolding every_item
 every_integer none e = tt
 every_integer (more v vs) e =
-    let (a, b) = both_true (is_kind 2 v) (every_item (is_kind 2) vs) e in
+    let (a, b) = both_true (of_kind 2 v) (every_item (of_kind 2) vs) e in
     let (z, i) = is_integer v (eqb-true (kind_of v) 2 a) in
     ((z, ap as_integer i), every_integer vs b)
 
-some_other : (vs : Items) → every_item (is_kind 2) vs ≡ false → NotIntegers vs
+some_other : (vs : Items) → every_item (of_kind 2) vs ≡ false → NotIntegers vs
 unfolding every_item
 some_other none e = impossible cc
-some_other (more v vs) e = go (is_kind 2 v) refl e (some_other vs)
+some_other (more v vs) e = go (of_kind 2 v) refl e (some_other vs)
   where
-    go : (b : Bool) → is_kind 2 v ≡ b → b && every_item (is_kind 2) vs ≡ false → (every_item (is_kind 2) vs ≡ false → NotIntegers vs) → NotIntegers (more v vs)
+    go : (b : Bool) → of_kind 2 v ≡ b → b && every_item (of_kind 2) vs ≡ false → (every_item (of_kind 2) vs ≡ false → NotIntegers vs) → NotIntegers (more v vs)
     go true d h rec = inr (rec h)
     go false d h rec = inl (integer_not v (eqb-false (kind_of v) 2 d))
 

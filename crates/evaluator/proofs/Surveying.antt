@@ -22,8 +22,8 @@ use Rattle.calling.specs.Scratch.{Kept}
 use Rattle.calling.proofs.Framing.{kept_then, kept_less, kept_same}
 use Rattle.meaning.specs.State.{State, under}
 use Rattle.meaning.specs.Meaning.{is_true, or_else, bindings_of, satisfying}
-use Rattle.evaluator.specs.declared.Outcome.{Outcome}
-use Rattle.evaluator.specs.declared.Outcome.TheVariants.{Value as HasValue}
+use Rattle.evaluator.specs.Contract.{Ended}
+use Rattle.evaluator.specs.Contract.{has_value}
 use Rattle.bindings.specs.declared.Cursor.{Cursor}
 use Rattle.parts.specs.declared.words.Env.{Env}
 use Rattle.lists.specs.Choosing.{first, due_for}
@@ -62,8 +62,8 @@ due_same k c d e = ap (λ (v : View). cond (eqb k 13) (first v.left) 0) e
 -- ---- the loop
 
 -- From s₀ and c₀, where the bindings stood open, up to binding j: `count` satisfied, and the wanted one is binding `at`.
-pub record Counts (table index : List ℕ) (r : ℕ) (s₀ : List ℕ) (base : ℕ) (env : Env) (c₀ : Choices) (due n : ℕ) (s : List ℕ) (c : Choices) (cursor : Cursor) (count at j : ℕ) : Type 0 where
-  pub asked : Ask table index r s₀ base env c₀
+pub record Counts (table : List ℕ) (r : ℕ) (s₀ : List ℕ) (base : ℕ) (env : Env) (c₀ : Choices) (due n : ℕ) (s : List ℕ) (c : Choices) (cursor : Cursor) (count at j : ℕ) : Type 0 where
+  pub asked : Ask table r s₀ base env c₀
   pub binder : Binder (kind_at (records table) r)
   pub quiet : Quiet table r
   pub bindings : List Binding
@@ -79,8 +79,8 @@ pub record Counts (table index : List ℕ) (r : ℕ) (s₀ : List ℕ) (base : �
   pub marks : Marks bindings sat due count at
   pub right : (ρ : State) → Around s₀ base env ρ → Leads (satisfying (meant table) r (operand_at table r 2) ρ bindings) c₀ (testing (meant table) r (operand_at table r 2) ρ sat (drop j bindings)) c
 
-counts_start : {table index : List ℕ} {r : ℕ} {s : List ℕ} {base : ℕ} {env : Env} {c : Choices} (due : ℕ) {n : ℕ} {cursor : Cursor} {bs : List Binding} → Ask table index r s base env c → Binder (kind_at (records table) r) → Quiet table r
-    → Standing table r false s base cursor bs → n ≡ cursor.count → Counts table index r s base env c due n s c cursor 0 0 0
+counts_start : {table : List ℕ} {r : ℕ} {s : List ℕ} {base : ℕ} {env : Env} {c : Choices} (due : ℕ) {n : ℕ} {cursor : Cursor} {bs : List Binding} → Ask table r s base env c → Binder (kind_at (records table) r) → Quiet table r
+    → Standing table r false s base cursor bs → n ≡ cursor.count → Counts table r s base env c due n s c cursor 0 0 0
 counts_start {table} {r = r} {s} {base} due {bs = bs} a b q h e =
     record {
       asked = a;
@@ -100,7 +100,7 @@ counts_start {table} {r = r} {s} {base} due {bs = bs} a b q h e =
       right = λ ρ u. leads_start a.sound (testing_start (meant table) r (operand_at table r 2) ρ bs);
     }
 
-module _ {table index : List ℕ} {r : ℕ} {s₀ : List ℕ} {base : ℕ} {env : Env} {c₀ : Choices} {due n : ℕ} {s : List ℕ} {c : Choices} {cursor : Cursor} {count at j : ℕ} (b : Counts table index r s₀ base env c₀ due n s c cursor count at j) where
+module _ {table : List ℕ} {r : ℕ} {s₀ : List ℕ} {base : ℕ} {env : Env} {c₀ : Choices} {due n : ℕ} {s : List ℕ} {c : Choices} {cursor : Cursor} {count at j : ℕ} (b : Counts table r s₀ base env c₀ due n s c cursor count at j) where
   low : Kept s₀ s base
   low = kept_less (omega arith) b.kept
 
@@ -108,7 +108,7 @@ module _ {table index : List ℕ} {r : ℕ} {s₀ : List ℕ} {base : ℕ} {env 
   all ρ = satisfying (meant table) r (operand_at table r 2) ρ b.bindings
 
   -- All were tested.
-  pub counts_end : n ≤ j → {v : Counted} → v.cursor ≡ cursor → v.count ≡ count → v.at ≡ at → v.outcome ≡ HasValue → (k : ℕ) → due ≡ due_for k c₀ → Gives all (Marked table r s base (due_for k c) v) s₀ s base env c₀ (ended v.outcome c)
+  pub counts_end : n ≤ j → {v : Counted} → v.cursor ≡ cursor → v.count ≡ count → v.at ≡ at → v.outcome ≡ has_value → (k : ℕ) → due ≡ due_for k c₀ → Gives all (Marked table r s base (due_for k c) v) s₀ s base env c₀ (ended v.outcome c)
   counts_end h {v} y₁ y₂ y₃ y₄ k z =
       record {
         kept = low;
@@ -133,7 +133,7 @@ module _ {table index : List ℕ} {r : ℕ} {s₀ : List ℕ} {base : ℕ} {env 
           }
 
   module _ (l : j < n) where
-    pub counts_stands : Stands table index r false s base env c cursor j
+    pub counts_stands : Stands table r false s base env c cursor j
     counts_stands = record { asked = ask_again b.asked low b.sound; binder = b.binder; bindings = b.bindings; standing = b.standing; below = omega (arith, b.number) }
 
     module _ {t : List ℕ} {h : Held} {d : Choices} (o : Tests table r s t base env c cursor j h d) where
@@ -151,15 +151,15 @@ module _ {table index : List ℕ} {r : ℕ} {s₀ : List ℕ} {base : ℕ} {env 
       tested : (ρ : State) → Around s₀ base env ρ → Comes (holds_in table r ρ here) (λ y. h.yes ≡ y) c (ended h.outcome d)
       tested ρ u = turned.given.right ρ (around_kept low u)
 
-      pub counts_off : (h.outcome ≡ HasValue → ⊥) → {P : List Binding → Type 0} → Gives all P s₀ t base env c₀ (ended h.outcome d)
+      pub counts_off : (h.outcome ≡ has_value → ⊥) → {P : List Binding → Type 0} → Gives all P s₀ t base env c₀ (ended h.outcome d)
       counts_off x {P} = record { kept = kept_then low turned.given.kept; right = λ ρ u. go ρ (opened ρ u) (tested ρ u) }
         where
           go : (ρ : State) → Leads (all ρ) c₀ (testing (meant table) r (operand_at table r 2) ρ b.sat (here ∷ drop (j + 1) b.bindings)) c → Comes (holds_in table r ρ here) (λ y. h.yes ≡ y) c (ended h.outcome d) → Comes (all ρ) P c₀ (ended h.outcome d)
           go ρ k (gave y p w) = absurd (x y)
           go ρ k (off y w) = off y (testing_off (meant table) r (operand_at table r 2) ρ b.sat here (drop (j + 1) b.bindings) k w)
 
-      pub counts_more : h.outcome ≡ HasValue → {j' count' at' : ℕ} {cursor' : Cursor} → j' ≡ j + 1 → cursor' ≡ h.cursor → at' ≡ marking h.yes count due j at → count' ≡ counting h.yes count
-          → Counts table index r s₀ base env c₀ due n t d cursor' count' at' j'
+      pub counts_more : h.outcome ≡ has_value → {j' count' at' : ℕ} {cursor' : Cursor} → j' ≡ j + 1 → cursor' ≡ h.cursor → at' ≡ marking h.yes count due j at → count' ≡ counting h.yes count
+          → Counts table r s₀ base env c₀ due n t d cursor' count' at' j'
       counts_more v {j'} {count'} {at'} {cursor'} z y x₁ x₂ =
           record {
             asked = b.asked;
@@ -196,7 +196,7 @@ module _ {table index : List ℕ} {r : ℕ} {s₀ : List ℕ} {base : ℕ} {env 
 
 -- ---- from the start
 
-module _ {table index : List ℕ} {r : ℕ} (k : ℕ) {s : List ℕ} {base : ℕ} {env : Env} {c : Choices} (a : Ask table index r s base env c) (l : 13 ≤ k) (m : k ≤ 17) (d : kind_at (records table) r ≡ k) (q : Quiet table r)
+module _ {table : List ℕ} {r : ℕ} (k : ℕ) {s : List ℕ} {base : ℕ} {env : Env} {c : Choices} (a : Ask table r s base env c) (l : 13 ≤ k) (m : k ≤ 17) (d : kind_at (records table) r ≡ k) (q : Quiet table r)
     {t : List ℕ} {x : Placed} {c₁ : Choices} (g : Begins table r k s t base env c x c₁) where
   abbrev found : State → Tree (List Binding)
   found ρ = bindings_of (meant table) r (pattern_for table r) (operand_at table r 1) ρ
@@ -215,13 +215,13 @@ module _ {table index : List ℕ} {r : ℕ} (k : ℕ) {s : List ℕ} {base : ℕ
   abbrev after : State → List Binding → Tree (List Binding)
   after ρ bs = satisfying (meant table) r (operand_at table r 2) ρ bs
 
-  pub survey_off : (x.outcome ≡ HasValue → ⊥) → {v : Counted} → v.outcome ≡ x.outcome → Surveys table r k s t base env c v c₁
+  pub survey_off : (x.outcome ≡ has_value → ⊥) → {v : Counted} → v.outcome ≡ x.outcome → Surveys table r k s t base env c v c₁
   survey_off h {v} y =
-      subst (λ (o : Outcome). Gives (surveyed table r) (Marked table r t base (due_for k c₁) v) s t base env c (ended o c₁)) (sym y)
+      subst (λ (o : Ended). Gives (surveyed table r) (Marked table r t base (due_for k c₁) v) s t base env c (ended o c₁)) (sym y)
       (record { kept = g.kept; right = λ ρ u. comes_stop (after ρ) (begun ρ u) h })
 
-  module _ (h : x.outcome ≡ HasValue) where
-    pub survey_start : {n : ℕ} → n ≡ x.cursor.count → (due : ℕ) → Counts table index r t base env c₁ due n t c₁ x.cursor 0 0 0
+  module _ (h : x.outcome ≡ has_value) where
+    pub survey_start : {n : ℕ} → n ≡ x.cursor.count → (due : ℕ) → Counts table r t base env c₁ due n t c₁ x.cursor 0 0 0
     survey_start e due =
         let (bs, w) = comes_held (begun a.state a.around) h in
         counts_start due (opened_asked k a g h) (subst Binder (sym d) (omega arith, omega arith)) q w e

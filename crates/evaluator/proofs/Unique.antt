@@ -43,15 +43,17 @@ use Rattle.calling.specs.Scratch.{Kept}
 use Rattle.calling.proofs.Framing.{kept_outside, kept_then, kept_less, put_kept, copyable_down, copied_kept}
 use Rattle.meaning.specs.State.{value_in, held_value as held}
 use Rattle.meaning.specs.Meaning.{or_else, unique, pattern_name}
-use Rattle.evaluator.specs.declared.Outcome.TheVariants.{Value as HasValue}
+use Rattle.evaluator.specs.Contract.{has_value, refusal_at}
 use Rattle.bindings.specs.declared.Cursor.{Cursor}
 use Rattle.parts.specs.declared.words.Env.{Env}
 use Rattle.evaluator.specs.Binding.{Counted, Binder, pattern_for, Standing, Stands, Marked, Surveys, Fetches}
 use Rattle.parts.specs.Word.{unpacked}
 use Rattle.bindings.specs.Window.{WordFor, Reached, UnderBinding}
 use Rattle.evaluator.specs.Contract.{Ask, ended, Comes, Evaluates, operand_at, value_as}
-use Rattle.evaluator.specs.Word.{ending, word_of}
-use Rattle.evaluator.proofs.Wording.{refused_at}
+use Rattle.std.specs.Prelude.{Err}
+use Rattle.prelude.specs.declared.Refusal.TheVariants.{NotUnique}
+use Rattle.evaluator.specs.Contract.{Ended}
+use Rattle.evaluator.proofs.Coming.{as_ended}
 use Rattle.evaluator.proofs.Coming.{comes_on, comes_stop, comes_as, comes_sound, comes_held, comes_value, comes_refused}
 use Rattle.evaluator.proofs.Tables.{fine_of, room_here}
 use Rattle.evaluator.proofs.Standing.{binder_has, binder_readable}
@@ -77,8 +79,8 @@ named_itself : (x : ℕ) → names_of (name x) x ≡ true
 unfolding names_of
 named_itself x = eq-eqb x x refl
 
-module _ {table index : List ℕ} {r : ℕ} {s : List ℕ} {base : ℕ} {env : Env} {c : Choices} {cursor : Cursor} {j : ℕ} (a : Stands table index r false s base env c cursor j) (is_17 : kind_at (records table) r ≡ 17) {p : ℕ} (is_p : p ≡ operand_at table r 0) where
-  readable : Readable table index p
+module _ {table : List ℕ} {r : ℕ} {s : List ℕ} {base : ℕ} {env : Env} {c : Choices} {cursor : Cursor} {j : ℕ} (a : Stands table r false s base env c cursor j) (is_17 : kind_at (records table) r ≡ 17) {p : ℕ} (is_p : p ≡ operand_at table r 0) where
+  readable : Readable table p
   readable = binder_readable a.asked a.binder is_p
 
   is_plain : kind_at (records table) p ≡ 32
@@ -87,16 +89,16 @@ module _ {table index : List ℕ} {r : ℕ} {s : List ℕ} {base : ℕ} {env : E
       (ap (λ (x : ℕ). eqb (kind_at (records table) x) 32) is_p
       ∙ subst (λ (x : Role). is_of_sort x (kind_at (records table) (operand_at table r 0)) ≡ true) (name_role is_17) (operand_sort (records table) (fine_of a.asked.legal).clear6 r 0 a.asked.within (binder_has a.asked a.binder 0 (omega arith)).has))
 
-  pub fetch_field : HasField table index p 0
-  fetch_field = record { here = readable.here; has = omega (arith, fit_least (record_at (records table) p) (readable.fine.fit p readable.here.within), plain_size (kind_at (records table) p) is_plain) }
+  pub fetch_field : HasField table p 0
+  fetch_field = record { here = readable.here; has = omega (arith, fit_least (record_at (records table) p) (readable.fine.fit p readable.here), plain_size (kind_at (records table) p) is_plain) }
 
   module _ {x : ℕ} (is_x : x ≡ field (record_at (records table) p) 0) where
     pub fetch_name : x < 16
-    fetch_name = omega (arith, plain_small (kind_at (records table) p) (record_at (records table) p) is_plain (fit_known (record_at (records table) p) (readable.fine.fit p readable.here.within)))
+    fetch_name = omega (arith, plain_small (kind_at (records table) p) (record_at (records table) p) is_plain (fit_known (record_at (records table) p) (readable.fine.fit p readable.here)))
 
     pattern_is : pattern_for table r ≡ name x
     pattern_is =
-        ap (pattern_at (records table)) (sym is_p) ∙ pattern_at_lem (records table) (lower (records table) readable.fine.clear6) p readable.here.within
+        ap (pattern_at (records table)) (sym is_p) ∙ pattern_at_lem (records table) (lower (records table) readable.fine.clear6) p readable.here
         ∙ is_name (record_at (records table) p) (map (pattern_at (records table)) (named (record_at (records table) p))) is_plain ∙ ap name (sym is_x)
 
     -- Every binding gives it a value.
@@ -158,13 +160,13 @@ unique_not r p [] e = refl
 unique_not r p (b ∷ []) e = absurd (e refl)
 unique_not r p (b ∷ c ∷ sat) e = refl
 
-module _ {table index : List ℕ} {r : ℕ} {s : List ℕ} {base : ℕ} {env : Env} {c : Choices} (a : Ask table index r s base env c) where
+module _ {table : List ℕ} {r : ℕ} {s : List ℕ} {base : ℕ} {env : Env} {c : Choices} (a : Ask table r s base env c) where
   -- 16
   module _ (is_16 : kind_at (records table) r ≡ 16) {t : List ℕ} {v : Counted} {c₁ : Choices} (g : Surveys table r 16 s t base env c v c₁) where
-    pub exists1_off : (v.outcome ≡ HasValue → ⊥) → Evaluates table r s t base env c (ended v.outcome c₁)
+    pub exists1_off : (v.outcome ≡ has_value → ⊥) → Evaluates table r s t base env c (ended v.outcome c₁)
     exists1_off h = record { kept = g.kept; right = λ ρ u. comes_as (mean_exists1 a.legal r ρ is_16) (comes_stop (count_in table r ρ) (g.right ρ u) h) }
 
-    pub exists1_done : v.outcome ≡ HasValue → {u : List ℕ} {m : ℕ} → Put t u base (boolean (eqb v.count 1)) 5 m → Evaluates table r s u base env c (value_as c₁)
+    pub exists1_done : v.outcome ≡ has_value → {u : List ℕ} {m : ℕ} → Put t u base (boolean (eqb v.count 1)) 5 m → Evaluates table r s u base env c (value_as c₁)
     exists1_done h {u} p =
         record {
           kept = kept_then g.kept (put_kept p);
@@ -174,21 +176,21 @@ module _ {table index : List ℕ} {r : ℕ} {s : List ℕ} {base : ℕ} {env : E
 
   -- 17
   module _ (is_17 : kind_at (records table) r ≡ 17) {t : List ℕ} {v : Counted} {c₁ : Choices} (g : Surveys table r 17 s t base env c v c₁) where
-    pub iota_off : (v.outcome ≡ HasValue → ⊥) → Evaluates table r s t base env c (ended v.outcome c₁)
+    pub iota_off : (v.outcome ≡ has_value → ⊥) → Evaluates table r s t base env c (ended v.outcome c₁)
     iota_off h = record { kept = g.kept; right = λ ρ u. comes_as (mean_iota a.legal r ρ is_17) (comes_stop (unique_in table r ρ) (g.right ρ u) h) }
 
-    module _ (h : v.outcome ≡ HasValue) where
-      pub iota_not : (v.count ≡ 1 → ⊥) → {w : ℕ} → w ≡ word_of 25 r 0 → Evaluates table r s t base env c (ending w c₁)
+    module _ (h : v.outcome ≡ has_value) where
+      pub iota_not : (v.count ≡ 1 → ⊥) → {w : Ended} → w ≡ Err (refusal_at NotUnique r) → Evaluates table r s t base env c (ended w c₁)
       iota_not n y =
-          refused_at 25 (omega arith) a y
+          as_ended y
           (record {
             kept = g.kept;
             right = λ ρ w. comes_as (mean_iota a.legal r ρ is_17) (comes_on (unique_in table r ρ) (g.right ρ w) h (λ sat m.
-                comes_as (unique_not r (pattern_for table r) sat (λ e. n (m.marks.count ∙ e))) (comes_refused 25 r (comes_sound (g.right ρ w)))));
+                comes_as (unique_not r (pattern_for table r) sat (λ e. n (m.marks.count ∙ e))) (comes_refused NotUnique r (comes_sound (g.right ρ w)))));
           })
 
       module _ (n : v.count ≡ 1) where
-        pub iota_stands : Stands table index r false t base env c₁ v.cursor v.at
+        pub iota_stands : Stands table r false t base env c₁ v.cursor v.at
         iota_stands =
             let (sat, m) = comes_held (g.right a.state a.around) h in
             record { asked = ask_again a g.kept (comes_sound (g.right a.state a.around)); binder = subst Binder (sym is_17) (omega arith, omega arith); bindings = m.bindings; standing = m.standing; below = m.marks.within (omega arith) }

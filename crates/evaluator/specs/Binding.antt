@@ -1,16 +1,16 @@
 -- What the functions for binders ask and promise: kinds 12 to 20. From the base of a binder on stand: its set, or the value of a let; at 512 the window
 -- of its bindings; at 1,024 what a comprehension builds; at 1,536 what an operand gives under a binding; at 2,048 the value of a map comprehension, when
 -- its key stands at 1,536.
-use Rattle.std.specs.Prelude.{◌≡◌, Bool, true, false, not, cond, ◌⊎◌, List, [], ◌∷◌, ℕ, ◌+◌, ◌≤◌, ◌<◌, eqb, length, get_or, take}
+use Rattle.std.specs.Prelude.{◌≡◌, Bool, true, false, cond, ◌⊎◌, List, [], ◌∷◌, ℕ, ◌+◌, ◌≤◌, ◌<◌, eqb, length, get_or, take, Ok, Err}
+use Rattle.std.specs.declared.result.Result.{Result}
+use Rattle.prelude.specs.declared.Refusal.{Refusal}
 use Rattle.std.proofs.Math.Option.{some}
-use Rattle.values.specs.Value.{Kind, Value, kind_of, collection, Items}
-use Rattle.values.specs.Place.{At, ItemsAt}
+use Rattle.values.specs.Value.{Kind, Value, collection, Items}
+use Rattle.values.specs.Place.{At}
+use Rattle.choices.specs.Runs.{ways_reported}
 use Rattle.choices.specs.State.{Choices}
 use Rattle.choices.specs.Tree.{Tree, give, stop, bind}
-use Rattle.choices.specs.declared.Answer.{Answer}
-use Rattle.choices.specs.declared.Answer.TheVariants.{Taken, Many, Short, Beyond}
 use Rattle.operators.specs.Enumerations.{add_member, add_item}
-use Rattle.operators.specs.Gather.{every_item}
 use Rattle.tables.specs.Table.{kind_at}
 use Rattle.tables.specs.Accepted.{records}
 use Rattle.patterns.specs.Binding.{Binding, nothing}
@@ -22,47 +22,51 @@ use Rattle.meaning.specs.State.{State, under, value_in}
 use Rattle.meaning.specs.Meaning.{formed_at, members_at, integers_at, bindings_of, integer_bindings, holds, satisfying, add_one, add_pair, pattern_name}
 use Rattle.lists.specs.Choosing.{due_for}
 use Rattle.bindings.specs.declared.Cursor.{Cursor}
-use Rattle.bindings.specs.declared.Opened.{Opened}
-use Rattle.bindings.specs.declared.Opened.TheVariants.{Bound, Refused as Unbound}
 use Rattle.parts.specs.declared.words.Env.{Env}
-use Rattle.evaluator.specs.declared.Outcome.{Outcome}
+use Rattle.evaluator.specs.declared.Refused.{Refused}
 use Rattle.evaluator.specs.declared.Tally.{Tally}
 use Rattle.bindings.specs.Window.{Values, Windowed, Reached, UnderBinding}
 use Rattle.evaluator.specs.Building.{built_kind, enumeration_for}
-use Rattle.evaluator.specs.Word.{outcome_of, word_of}
-use Rattle.evaluator.specs.Contract.{Ask, Evaluated, ended, Gives, meant, operand_at}
+use Rattle.evaluator.specs.Contract.{Ended, has_value, Ask, Evaluated, ended, Gives, meant, operand_at}
 
--- ---- a cursor, lent as its four numbers
-
-abbrev pub cursor_of : List ℕ → Cursor
-cursor_of l = record { count = get_or l 0 0; names = get_or l 1 0; width = get_or l 2 0; from = get_or l 3 0 }
+-- ---- answers, and where the bindings stand
 
 -- What an evaluation in a binder came to, and where its bindings stand.
 pub record Placed : Type 0 where
-  pub outcome : Outcome
+  pub outcome : Ended
   pub cursor : Cursor
 
-abbrev pub placed : ℕ → List ℕ → Placed
-placed w l = record { outcome = outcome_of w; cursor = cursor_of l }
+abbrev pub placed : Ended → Cursor → Placed
+placed o cursor = record { outcome = o; cursor = cursor }
+
+-- Where there are no bindings.
+abbrev pub nowhere : Cursor
+nowhere = record { count = 0; names = 0; width = 0; from = 0 }
+
+abbrev pub begun : Result Cursor Refused → Placed
+begun (Ok cursor) = placed has_value cursor
+begun (Err x) = placed (Err x) nowhere
 
 -- What a condition came to under a binding.
 pub record Held : Type 0 where
-  pub outcome : Outcome
+  pub outcome : Ended
   pub cursor : Cursor
   pub yes : Bool
 
-abbrev pub held : ℕ → List ℕ → Held
-held w l = record { outcome = outcome_of w; cursor = cursor_of l; yes = eqb w 2 }
+abbrev pub held : Result Bool Refused → Cursor → Held
+held (Ok t) cursor = record { outcome = has_value; cursor = cursor; yes = t }
+held (Err x) cursor = record { outcome = Err x; cursor = cursor; yes = false }
 
 -- How many bindings satisfy, and which of all is the wanted one of them.
 pub record Counted : Type 0 where
-  pub outcome : Outcome
+  pub outcome : Ended
   pub cursor : Cursor
   pub count : ℕ
   pub at : ℕ
 
-abbrev pub counted : Tally → List ℕ → Counted
-counted v l = record { outcome = outcome_of v.word; cursor = cursor_of l; count = v.count; at = v.at }
+abbrev pub counted : Result Tally Refused → Counted
+counted (Ok v) = record { outcome = has_value; cursor = v.cursor; count = v.count; at = v.at }
+counted (Err x) = record { outcome = Err x; cursor = nowhere; count = 0; at = 0 }
 
 -- ---- the bindings of a binder
 
@@ -120,26 +124,14 @@ pub data Suits (k : ℕ) (s : List ℕ) (at : ℕ) (b : Bool) : Type 0 where
   fit : b ≡ true → (vs : List Value) → Values s at (wholly k) vs → ((r : ℕ) (v : Value) → At s at v → values_for k r v ≡ give vs) → Suits k s at b
   unfit : b ≡ false → ((r : ℕ) (v : Value) → At s at v → values_for k r v ≡ stop 20 r) → Suits k s at b
 
--- r says whether the items from a place up to another are of a kind.
-abbrev pub is_kind : ℕ → Value → Bool
-is_kind kind v = eqb (kind_of v) kind
-
-abbrev pub AllOfKind : ℕ → List ℕ → ℕ → ℕ → Bool → Type 0
-AllOfKind kind s from to r = (vs : Items) → ItemsAt s from to vs → r ≡ every_item (is_kind kind) vs
-
--- The cursor over the bindings, or their refusal.
-pub data OpeningIs (o : Opened) (r w : ℕ) (l : List ℕ) : Type 0 where
-  opens : {cursor : Cursor} → o ≡ Bound cursor → w ≡ 0 → cursor_of l ≡ cursor → OpeningIs o r w l
-  fails : {n : ℕ} → o ≡ Unbound n → w ≡ word_of n r 0 → OpeningIs o r w l
-
 abbrev pub Begins : List ℕ → ℕ → ℕ → List ℕ → List ℕ → ℕ → Env → Choices → Placed → Choices → Type 0
 Begins table r k s t base env c b d = Gives (listed table r k) (Standing table r (wholly k) t base b.cursor) s t base env c (ended b.outcome d)
 
 -- ---- under a binding
 
 -- What is asked: the bindings stand there, and j is one of them.
-pub record Stands (table index : List ℕ) (r : ℕ) (whole : Bool) (s : List ℕ) (base : ℕ) (env : Env) (c : Choices) (cursor : Cursor) (j : ℕ) : Type 0 where
-  pub asked : Ask table index r s base env c
+pub record Stands (table : List ℕ) (r : ℕ) (whole : Bool) (s : List ℕ) (base : ℕ) (env : Env) (c : Choices) (cursor : Cursor) (j : ℕ) : Type 0 where
+  pub asked : Ask table r s base env c
   pub binder : Binder (kind_at (records table) r)
   pub bindings : List Binding
   pub standing : Standing table r whole s base cursor bindings
@@ -152,9 +144,9 @@ pub record Nameless (cursor : Cursor) : Type 0 where
   pub from : cursor.from ≡ 0
 
 -- What is asked and promised of binding the names of binding j: it is brought into the window, and the environment is the one under it.
-pub record AsksNames (table index : List ℕ) (r : ℕ) (whole : Bool) (s : List ℕ) (base : ℕ) (env : Env) (cursor : Cursor) (j : ℕ) : Type 0 where
+pub record AsksNames (table : List ℕ) (r : ℕ) (whole : Bool) (s : List ℕ) (base : ℕ) (env : Env) (cursor : Cursor) (j : ℕ) : Type 0 where
   pub choices : Choices
-  pub stands : Stands table index r whole s base env choices cursor j
+  pub stands : Stands table r whole s base env choices cursor j
 
 pub record BindsNames (table : List ℕ) (r : ℕ) (whole : Bool) (s t : List ℕ) (base : ℕ) (env : Env) (cursor : Cursor) (j : ℕ) (near : Cursor) (inner : Env) : Type 0 where
   pub reached : Reached table (operand_at table r 0) s t base whole (base + 512) cursor j near
@@ -188,11 +180,6 @@ pub record Tests (table : List ℕ) (r : ℕ) (s t : List ℕ) (base : ℕ) (env
       → Turned (λ ρ. holds_in table r ρ (get_or bs j nothing)) (λ t. h.yes ≡ t) table r false bs s t base env c (ended h.outcome d) h.cursor
   pub between : Between s t base (base + 1536)
 
--- Two truths agree.
-abbrev pub agrees : Bool → Bool → Bool
-agrees true b = b
-agrees false b = not b
-
 -- ---- all bindings: 13, 16 and 17
 
 -- Of the bindings bs those in sat satisfied, n of them; the one numbered `due`, where there is one, is binding k.
@@ -221,9 +208,9 @@ pub record Marked (table : List ℕ) (r : ℕ) (s : List ℕ) (base due : ℕ) (
 abbrev pub Surveys : List ℕ → ℕ → ℕ → List ℕ → List ℕ → ℕ → Env → Choices → Counted → Choices → Type 0
 Surveys table r k s t base env c v d = Gives (surveyed table r) (Marked table r t base (due_for k d) v) s t base env c (ended v.outcome d)
 
-pub record Fetchable (table index : List ℕ) (r : ℕ) (s : List ℕ) (base : ℕ) (env : Env) (cursor : Cursor) (j : ℕ) : Type 0 where
+pub record Fetchable (table : List ℕ) (r : ℕ) (s : List ℕ) (base : ℕ) (env : Env) (cursor : Cursor) (j : ℕ) : Type 0 where
   pub choices : Choices
-  pub stands : Stands table index r false s base env choices cursor j
+  pub stands : Stands table r false s base env choices cursor j
   pub iota : kind_at (records table) r ≡ 17
 
 -- The value that binding j gives to the name of the pattern, left at base.
@@ -233,24 +220,10 @@ pub record Fetches (table : List ℕ) (r : ℕ) (s t : List ℕ) (base : ℕ) (c
 
 -- ---- a choice: 12 and 13
 
--- The number of a choice that was not made, and the number of bindings that it reports.
-abbrev pub answer_number : Answer → ℕ
-answer_number (Taken i) = 0
-answer_number Many = 31
-answer_number Short = 32
-answer_number Beyond = 33
-
-abbrev pub answer_count : Answer → ℕ → ℕ
-answer_count (Taken i) n = 0
-answer_count Many n = 0
-answer_count Short n = n
-answer_count Beyond n = n
-
-abbrev pub IsTaken : Answer → Type 0
-IsTaken (Taken i) = Unit {0}
-IsTaken Many = ⊥
-IsTaken Short = ⊥
-IsTaken Beyond = ⊥
+-- The way taken, or the refusal of a choice of the record r among n bindings.
+abbrev pub chosen : Result ℕ Refusal → ℕ → ℕ → Result ℕ Refused
+chosen (Ok i) r n = Ok i
+chosen (Err x) r n = Err (record { refusal = x; place = r; count = ways_reported x n })
 
 -- ---- comprehensions: 18, 19 and 20
 
@@ -278,8 +251,8 @@ step_in table r k ρ vs b = turn (holds_in table r ρ) (adds_in table r k ρ) vs
 abbrev pub BuiltAt : ℕ → List ℕ → ℕ → Items → Type 0
 BuiltAt k s base vs = At s (base + 1024) (collection (kind_for k) vs)
 
-pub record Extends (table index : List ℕ) (r k : ℕ) (s : List ℕ) (base : ℕ) (env : Env) (c : Choices) (cursor : Cursor) (j : ℕ) : Type 0 where
-  pub stands : Stands table index r false s base env c cursor j
+pub record Extends (table : List ℕ) (r k : ℕ) (s : List ℕ) (base : ℕ) (env : Env) (c : Choices) (cursor : Cursor) (j : ℕ) : Type 0 where
+  pub stands : Stands table r false s base env c cursor j
   pub kind : kind_at (records table) r ≡ k
   pub comprehension : Comprehension k
   pub items : Items

@@ -1,38 +1,23 @@
 -- What the functions that evaluate nothing else ask and promise.
-use Rattle.std.specs.Prelude.{◌≡◌, ◌⊎◌, Bool, true, false, cond, List, ℕ, ◌≤◌, ◌<◌, eqb}
+use Rattle.std.specs.Prelude.{◌≡◌, ◌⊎◌, Bool, true, false, cond, List, ℕ, ◌≤◌, ◌<◌, eqb, Some, None}
+use Rattle.std.specs.declared.option.Option.{Option as Maybe}
 use Rattle.std.proofs.Math.Option.{Option, none as absent, some}
 use Rattle.values.specs.Value.{Value}
 use Rattle.values.specs.Place.{At}
-use Rattle.choices.specs.State.{Choices}
 use Rattle.operators.specs.Answer.{Answer, as_boolean}
 use Rattle.operators.specs.Sets.{range_of}
 use Rattle.operators.specs.Maps.{apply_to}
 use Rattle.operators.specs.Operators.{binary}
 use Rattle.operations.specs.Numbers.{Binary}
-use Rattle.calling.specs.declared.Applied.{Applied}
-use Rattle.calling.specs.declared.Applied.TheVariants.{Done, Refused as Off}
-use Rattle.evaluator.specs.declared.Outcome.{Outcome}
-use Rattle.evaluator.specs.declared.Outcome.TheVariants.{Value as HasValue, Refused}
-use Rattle.evaluator.specs.declared.Truth.{Truth}
-use Rattle.evaluator.specs.declared.Truth.TheVariants.{True, False, Other}
-use Rattle.evaluator.specs.Contract.{Evaluated, ended, operator_at}
-
--- An operator's answer at the record r.
-abbrev pub applied : Applied → ℕ → Outcome
-applied Done r = HasValue
-applied (Off n) r = Refused n r 0
-
-abbrev pub applied_as : Applied → ℕ → Choices → Evaluated
-applied_as a r c = ended (applied a r) c
+use Rattle.evaluator.specs.Contract.{operator_at}
 
 -- ---- tests
 
-abbrev pub read_as : Truth → Option Bool
-read_as True = some true
-read_as False = some false
-read_as Other = absent
+abbrev pub read_as : Maybe Bool → Option Bool
+read_as (Some b) = some b
+read_as None = absent
 
-abbrev pub Tells : List ℕ → ℕ → Truth → Type 0
+abbrev pub Tells : List ℕ → ℕ → Maybe Bool → Type 0
 Tells s at t = (v : Value) → At s at v → as_boolean v ≡ read_as t
 
 -- ---- what takes both operands: a strict binary operator, a set range, an application

@@ -1,6 +1,5 @@
 -- What evaluating a record asks and promises: the one contract of the evaluator's functions. Walks and services cite it.
 pub mod Contract
-pub mod Word
 pub mod Leaves
 pub mod Building
 pub mod Binding

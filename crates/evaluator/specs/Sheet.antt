@@ -1,17 +1,14 @@
 -- A whole run: the last record of an accepted table, with no name bound.
-use Rattle.std.specs.Prelude.{◌≡◌, List, ℕ, length}
+use Rattle.std.specs.Prelude.{◌≡◌, List, ℕ, length, Ok}
 use Rattle.values.specs.Place.{At}
 use Rattle.tables.specs.Check.{check}
-use Rattle.tables.specs.Reading.{Indexed}
-use Rattle.tables.specs.declared.Checked.TheVariants.{Accepted}
 use Rattle.choices.specs.State.{Choices, Invariant}
 use Rattle.meaning.specs.Service.{tree, scratch_bytes}
 use Rattle.evaluator.specs.Contract.{Evaluated, Comes}
 
 -- What is asked: an accepted table with an index of its records, the scratch of document 01, and choices in order.
-pub record Runnable (table index : List ℕ) (count : ℕ) (s : List ℕ) (c : Choices) : Type 0 where
-  pub accepted : check table ≡ Accepted count
-  pub indexed : Indexed table index
+pub record Runnable (table : List ℕ) (count : ℕ) (s : List ℕ) (c : Choices) : Type 0 where
+  pub accepted : check table ≡ Ok count
   pub room : length s ≡ scratch_bytes
   pub sound : Invariant c
 

@@ -6,119 +6,106 @@ ghost use Rattle.tables.specs.Table.{kind_at};
 ghost use Rattle.tables.specs.Accepted.{records};
 ghost use Rattle.tables.specs.Shapes.{first_of};
 ghost use Rattle.lists.specs.Lent.{lent};
-ghost use Rattle.evaluator.specs.Contract.{Ask, Evaluates, env_of};
+ghost use Rattle.evaluator.specs.Contract.{Ask, Evaluates, ended, env_of};
 ghost use Rattle.evaluator.specs.Leaves.{Tells, Connects, OfTwo, of_two};
-ghost use Rattle.evaluator.specs.Word.{ending};
 
-use crate::Truth;
-use crate::words::{VALUE, refusal};
-use calling::Applied;
+use crate::Refused;
 use lists::Run;
-use parts::Part;
+use parts::How;
 use parts::words::{Env, unpack};
-use tables::reading::{AFTER_OPERATOR, PLAIN, field, integer};
-use tables::{Index, binary, kinds};
+use prelude::Refusal;
+use tables::sheet::{AFTER_OPERATOR, PLAIN, Sheet};
+use tables::{binary, kinds};
 use values::Value;
 
 // 1: a boolean literal.
 pub fn truth(
-    table: &[u8],
-    index: &Index,
+    sheet: &Sheet,
     r: usize,
     s: &mut [u8],
     base: usize,
     env: &[u32; Env::NAMES],
     run: &mut Run,
-) -> usize
-    requires { Ask table.now index.now r s.old base (env_of env.now) (lent run.old) × (kind_at (records table.now) r ≡ 1) }
-    ensures { Evaluates table.now r s.old s.new base (env_of env.now) (lent run.old) (ending result (lent run.new)) }
+) -> Result<(), Refused>
+    requires { Ask sheet.now r s.old base (env_of env.now) (lent run.old) × (kind_at (records sheet.now) r ≡ 1) }
+    ensures { Evaluates sheet.now r s.old s.new base (env_of env.now) (lent run.old) (ended result (lent run.new)) }
 {
-    let b = field(table, index, r, 0);
+    let b = sheet.field(r, 0);
     values::put_boolean(s, base, b == 1);
-    VALUE
+    Ok(())
 }
 
 // 2: an integer literal.
 pub fn whole(
-    table: &[u8],
-    index: &Index,
+    sheet: &Sheet,
     r: usize,
     s: &mut [u8],
     base: usize,
     env: &[u32; Env::NAMES],
     run: &mut Run,
-) -> usize
-    requires { Ask table.now index.now r s.old base (env_of env.now) (lent run.old) × (kind_at (records table.now) r ≡ 2) }
-    ensures { Evaluates table.now r s.old s.new base (env_of env.now) (lent run.old) (ending result (lent run.new)) }
+) -> Result<(), Refused>
+    requires { Ask sheet.now r s.old base (env_of env.now) (lent run.old) × (kind_at (records sheet.now) r ≡ 2) }
+    ensures { Evaluates sheet.now r s.old s.new base (env_of env.now) (lent run.old) (ended result (lent run.new)) }
 {
-    let z = integer(table, index, r);
+    let z = sheet.integer(r);
     values::put_integer(s, base, z);
-    VALUE
+    Ok(())
 }
 
 // 22: a quote literal.
 pub fn quote(
-    table: &[u8],
-    index: &Index,
+    sheet: &Sheet,
     r: usize,
     s: &mut [u8],
     base: usize,
     env: &[u32; Env::NAMES],
     run: &mut Run,
-) -> usize
-    requires { Ask table.now index.now r s.old base (env_of env.now) (lent run.old) × (kind_at (records table.now) r ≡ 22) }
-    ensures { Evaluates table.now r s.old s.new base (env_of env.now) (lent run.old) (ending result (lent run.new)) }
+) -> Result<(), Refused>
+    requires { Ask sheet.now r s.old base (env_of env.now) (lent run.old) × (kind_at (records sheet.now) r ≡ 22) }
+    ensures { Evaluates sheet.now r s.old s.new base (env_of env.now) (lent run.old) (ended result (lent run.new)) }
 {
-    let n = tables::reading::quote(table, index, r);
+    let n = sheet.quote(r);
     values::put_quote(s, base, n);
-    VALUE
+    Ok(())
 }
 
 // 3: a name. Its value is built where the name is read.
 pub fn name(
-    table: &[u8],
-    index: &Index,
+    sheet: &Sheet,
     r: usize,
     s: &mut [u8],
     base: usize,
     env: &[u32; Env::NAMES],
     run: &mut Run,
-) -> usize
-    requires { Ask table.now index.now r s.old base (env_of env.now) (lent run.old) × (kind_at (records table.now) r ≡ 3) }
-    ensures { Evaluates table.now r s.old s.new base (env_of env.now) (lent run.old) (ending result (lent run.new)) }
+) -> Result<(), Refused>
+    requires { Ask sheet.now r s.old base (env_of env.now) (lent run.old) × (kind_at (records sheet.now) r ≡ 3) }
+    ensures { Evaluates sheet.now r s.old s.new base (env_of env.now) (lent run.old) (ended result (lent run.new)) }
 {
-    let x = field(table, index, r, 0);
+    let x = sheet.field(r, 0);
     let word = env[x];
     let part = unpack(word);
-    if part.how == Part::NOTHING {
-        return refusal(Applied::WRONG_KIND, r, 0);
+    if part.how == How::Nothing {
+        return Err(Refused::at(Refusal::WrongKind, r));
     }
     let at = part.at as usize;
-    if part.how == Part::WHOLE {
-        if values::kind_of(s, at) == Value::INTEGER {
-            let z = values::integer_at(s, at);
-            values::put_integer(s, base, z);
-            return VALUE;
-        }
+    if part.how == How::Whole && values::kind_of(s, at) == Value::INTEGER {
+        let z = values::integer_at(s, at);
+        values::put_integer(s, base, z);
+        return Ok(());
     }
     parts::put_part(s, part, base);
-    VALUE
+    Ok(())
 }
 
 // The boolean at a place, if it is one.
-pub fn test(s: &[u8], at: usize) -> Truth
+pub fn test(s: &[u8], at: usize) -> Option<bool>
     requires { Holds s.now at }
     ensures { Tells s.now at result }
 {
-    let k = values::kind_of(s, at);
-    if k != Value::BOOLEAN {
-        return Truth::Other;
+    if values::kind_of(s, at) != Value::BOOLEAN {
+        return None;
     }
-    let b = values::boolean_at(s, at);
-    if b {
-        return Truth::True;
-    }
-    Truth::False
+    Some(values::boolean_at(s, at))
 }
 
 // Whether the operator of a record of kind k is and, or or =>.
@@ -144,7 +131,8 @@ pub fn first_of_two(k: usize) -> usize
 }
 
 // 5, 11, 21: a strict binary operator, a set range, an application, on the values at base and 512 bytes above it.
-pub fn two(s: &mut [u8], base: usize, k: usize, op: usize) -> Applied
+#[inline(always)]
+pub fn two(s: &mut [u8], base: usize, k: usize, op: usize) -> Result<(), Refusal>
     requires { Two s.old base × OfTwo k op }
     ensures { OnTwo (of_two k op) s.old s.new base result }
 {

@@ -17,8 +17,8 @@ use Rattle.printing.specs.Contract.{due, Ready, Grew, Lined, closing, Closed, Fi
 use Rattle.printing.proofs.Texts.{is_due, not_due}
 
 -- It has gone on from p to q; each line took at most the longest line's length.
-pub record Filling (table index : List ℕ) (count : ℕ) (s run out out₀ : List ℕ) (p q : Progress) : Type 0 where
-  pub grew : Grew table index count s run out out₀ p q
+pub record Filling (table : List ℕ) (count : ℕ) (s run out out₀ : List ℕ) (p q : Progress) : Type 0 where
+  pub grew : Grew table count s run out out₀ p q
   pub going : q.over ≡ false
   pub long : length out ≡ length out₀
   pub onward : p.lists ≤ q.lists
@@ -28,8 +28,8 @@ pub record Filling (table index : List ℕ) (count : ℕ) (s run out out₀ : Li
 going_on : (table : List ℕ) (p : Progress) → p.over ≡ false → to_come table p ≡ from_list table p.lists
 going_on table p e = ap (λ (b : Bool). cond b [] (from_list table p.lists)) e
 
-module _ (table index : List ℕ) (count : ℕ) where
-  pub filling_start : (s run out : List ℕ) (p : Progress) → Ready table index count s run out p → Filling table index count s run out out p p
+module _ (table : List ℕ) (count : ℕ) where
+  pub filling_start : (s run out : List ℕ) (p : Progress) → Ready table count s run out p → Filling table count s run out out p p
   filling_start s run out p y =
       record {
         grew = record { stands = y.stands; inside = omega (arith, y.room); text = ap (λ (l : List ℕ). take p.at out ++ l) (going_on table p y.going); longer = omega arith; beyond = refl };
@@ -39,11 +39,11 @@ module _ (table index : List ℕ) (count : ℕ) where
         bound = omega arith;
       }
 
-  module _ (s run out out₀ : List ℕ) (p q : Progress) (f : Filling table index count s run out out₀ p q) where
-    pub filling_full : p.lists < q.lists → Filled table index count s run out out₀ p q
+  module _ (s run out out₀ : List ℕ) (p q : Progress) (f : Filling table count s run out out₀ p q) where
+    pub filling_full : p.lists < q.lists → Filled table count s run out out₀ p q
     filling_full h = record { grew = f.grew; further = λ e. h }
 
-    pub filling_ready : q.at + longest_line ≤ length out → Ready table index count s run out q
+    pub filling_ready : q.at + longest_line ≤ length out → Ready table count s run out q
     filling_ready h = record { stands = f.grew.stands; going = f.going; room = h }
 
     pub filling_few : due q ≡ true → q.lists < most_lines
@@ -63,7 +63,7 @@ module _ (table index : List ℕ) (count : ℕ) where
         ∙ drop-drop (r - q.at) q.at out₀
         ∙ ap (λ (n : ℕ). drop n out₀) e
 
-    pub filling_more : (s' run' out' : List ℕ) (r : Progress) → Lined table index count s' run' out' out q r → length out' ≡ length out → Filling table index count s' run' out' out₀ p r
+    pub filling_more : (s' run' out' : List ℕ) (r : Progress) → Lined table count s' run' out' out q r → length out' ≡ length out → Filling table count s' run' out' out₀ p r
     filling_more s' run' out' r h k =
         record {
           grew =
@@ -81,7 +81,7 @@ module _ (table index : List ℕ) (count : ℕ) where
         }
 
     -- The last line is written, or there is no room for it.
-    pub filling_end : due q ≡ false → p.at + longest_line ≤ length out₀ → (out' : List ℕ) (r : Progress) → Closed out' out q r → length out' ≡ length out → Filled table index count s run out' out₀ p r
+    pub filling_end : due q ≡ false → p.at + longest_line ≤ length out₀ → (out' : List ℕ) (r : Progress) → Closed out' out q r → length out' ≡ length out → Filled table count s run out' out₀ p r
     filling_end e room out' r h k =
         let last : from_list table q.lists ≡ closing q = not_due table q (lent run) f.grew.stands.behind f.grew.stands.few e in
         record {
@@ -89,7 +89,7 @@ module _ (table index : List ℕ) (count : ℕ) where
               record {
                 stands =
                     record {
-                      indexes = f.grew.stands.indexes;
+                      walkable = f.grew.stands.walkable;
                       behind = subst (λ (m : Bool). Behind (tree table) r.lists m (lent run)) (sym h.same_more) (subst (λ (n : ℕ). Behind (tree table) n q.more (lent run)) (sym h.same_lists) f.grew.stands.behind);
                       few = omega (arith, h.same_lists, f.grew.stands.few);
                     };

@@ -4,12 +4,13 @@
 ghost use Rattle.std.specs.Prelude.{◌≡◌, true, false, ◌+◌, ◌≤◌, ◌<◌, length};
 ghost use Rattle.print.specs.Print.{most_lines};
 ghost use Rattle.print.specs.Contract.{short_line};
-ghost use Rattle.printing.specs.Contract.{Begun, outcome_number, due, Ready, Lined, Closed, Filled};
+ghost use Rattle.printing.specs.Contract.{Begun, refusal_of, due, Ready, Lined, Closed, Filled};
 
-use evaluator::{Outcome, run_sheet};
-use lists::{RUN, advance, list_of};
+use evaluator::{Refused, run_sheet};
+use lists::{Run, advance, list_of};
+use prelude::Refusal;
 use print::{LONGEST_LINE, MOST_LINES, SHORT_LINE, put_cut, put_end, put_first, put_line};
-use tables::Index;
+use tables::sheet::Sheet;
 
 // How far a print has come: how many lists' lines are written, whether a list follows them, whether the last line is written, and how long the piece in
 // the buffer is.
@@ -26,12 +27,14 @@ impl Progress {
     pub fn emptied(self) -> Progress
         ensures { result ≡ record { lists = self.lists; more = self.more; over = self.over; at = 0 } }
     {
-        Progress {
-            lists: self.lists,
-            more: self.more,
-            over: self.over,
-            at: 0,
-        }
+        Progress { at: 0, ..self }
+    }
+
+    // Whether a line of a list comes next.
+    fn is_due(self) -> bool
+        ensures { result ≡ due self }
+    {
+        self.more && self.lists < MOST_LINES
     }
 }
 
@@ -49,48 +52,34 @@ pub fn begin(count: usize, out: &mut [u8]) -> Progress
     }
 }
 
-// The number of an outcome: 0 with a value.
-fn number(o: Outcome) -> usize
-    ensures { result ≡ outcome_number o }
+// The refusal of an outcome, if it is one.
+fn refusal_of(o: Result<(), Refused>) -> Option<Refusal>
+    ensures { result ≡ refusal_of o }
 {
     match o {
-        Outcome::Value => 0,
-        Outcome::Refused(n, _, _) => n,
+        Ok(()) => None,
+        Err(e) => Some(e.refusal),
     }
-}
-
-// Whether a line of a list comes next.
-fn is_due(p: Progress) -> bool
-    ensures { result ≡ due p }
-{
-    if !p.more {
-        return false;
-    }
-    p.lists < MOST_LINES
 }
 
 // Writes the line of the list that is due, from one run, and moves on to the next list.
 fn put_next(
-    table: &[u8],
-    index: &Index,
+    sheet: &Sheet,
     count: usize,
     s: &mut [u8],
-    run: &mut [u8; RUN],
+    run: &mut Run,
     out: &mut [u8],
     p: Progress,
 ) -> Progress
-    requires { Ready table.now index.now count s.old run.old out.old p × (due p ≡ true) }
-    ensures { Lined table.now index.now count s.new run.new out.new out.old p result }
+    requires { Ready sheet.now count s.old run.old out.old p × (due p ≡ true) }
+    ensures { Lined sheet.now count s.new run.new out.new out.old p result }
 {
-    let o = run_sheet(table, index, count, s, run);
+    let o = run_sheet(sheet, count, s, run);
     let list = list_of(run);
-    let entries = list.entries;
-    let len = list.len;
-    let at = put_line(&entries[..len], number(o), s, out, p.at);
-    let more = advance(run);
+    let at = put_line(&list.entries[..list.len], refusal_of(o), s, out, p.at);
     Progress {
         lists: p.lists + 1,
-        more,
+        more: advance(run),
         over: false,
         at,
     }
@@ -101,50 +90,39 @@ fn put_last(out: &mut [u8], p: Progress) -> Progress
     requires { (p.at ≤ length out.old) × (p.lists ≤ most_lines) }
     ensures { Closed out.new out.old p result }
 {
-    let at = p.at;
-    let more = p.more;
-    let lists = p.lists;
-    if out.len() - at < SHORT_LINE {
-        return Progress {
-            lists,
-            more,
-            over: false,
-            at,
-        };
+    if out.len() - p.at < SHORT_LINE {
+        return Progress { over: false, ..p };
     }
-    let end = if more {
-        put_cut(out, at)
+    let at = if p.more {
+        put_cut(out, p.at)
     } else {
-        put_end(lists, out, at)
+        put_end(p.lists, out, p.at)
     };
     Progress {
-        lists,
-        more,
         over: true,
-        at: end,
+        at,
+        ..p
     }
 }
 
 // Writes as many lines as fit, the last line among them.
 pub fn fill(
-    table: &[u8],
-    index: &Index,
+    sheet: &Sheet,
     count: usize,
     s: &mut [u8],
-    run: &mut [u8; RUN],
+    run: &mut Run,
     out: &mut [u8],
     p: Progress,
 ) -> Progress
-    requires { Ready table.now index.now count s.old run.old out.old p }
-    ensures { Filled table.now index.now count s.new run.new out.new out.old p result }
+    requires { Ready sheet.now count s.old run.old out.old p }
+    ensures { Filled sheet.now count s.new run.new out.new out.old p result }
 {
     let mut q = p;
-    while is_due(q) {
-        let at = q.at;
-        if out.len() - at < LONGEST_LINE {
+    while q.is_due() {
+        if out.len() - q.at < LONGEST_LINE {
             return q;
         }
-        q = put_next(table, index, count, s, run, out, q);
+        q = put_next(sheet, count, s, run, out, q);
     }
     put_last(out, q)
 }

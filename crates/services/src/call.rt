@@ -1,6 +1,7 @@
 // What every service does first: rules 1 to 9, and the answer where one of them is broken.
 ghost use Rattle.std.specs.Prelude.{◌≡◌, false, cond, ◌≤◌, ◌<◌, length};
 ghost use Rattle.tables.specs.Check.{most_records};
+ghost use Rattle.tables.specs.Faults.{number_of};
 ghost use Rattle.meaning.specs.Answer.{weight, pack as packed};
 ghost use Rattle.meaning.specs.Service.{scratch_bytes};
 ghost use Rattle.meaning.specs.Lent.{zeroed, is_early};
@@ -9,49 +10,50 @@ ghost use Rattle.services.specs.Left.{Admits};
 use crate::SCRATCH;
 use crate::lent::clear;
 use checking::check;
-use tables::{Checked, Index};
+use tables::{Fault, Index, Rule};
 use values::Value;
 use walks::pack;
 
-// 1: too little scratch. 2: too short a result buffer.
-const SHORT_SCRATCH: usize = 1;
-
-const SHORT_RESULT: usize = 2;
-
 // Rules 1 to 9: enough scratch, a buffer that holds any value, and the check of the table, which fills the index. Where no value is due, the buffer
 // counts as long enough, `Value::LIMIT`.
-pub fn admitted(table: &[u8], scratch: usize, buffer: usize, index: &mut Index) -> Checked
+pub fn admitted(
+    table: &[u8],
+    scratch: usize,
+    buffer: usize,
+    index: &mut Index,
+) -> Result<usize, Fault>
     requires { length index.old ≡ most_records }
     ensures { Admits scratch buffer table.now index.new result }
 {
     if scratch < SCRATCH {
-        return Checked::Refused(SHORT_SCRATCH, 0);
+        return Err(Fault {
+            rule: Rule::ScratchTooShort,
+            place: 0,
+        });
     }
     if buffer < Value::LIMIT {
-        return Checked::Refused(SHORT_RESULT, 0);
+        return Err(Fault {
+            rule: Rule::ResultTooShort,
+            place: 0,
+        });
     }
     check(table, index)
 }
 
-// 1 and 2, which change nothing.
-pub fn is_early(number: usize) -> bool
-    ensures { result ≡ is_early number }
+// Rules 1 and 2, which change nothing.
+pub fn is_early(rule: Rule) -> bool
+    ensures { result ≡ is_early (number_of rule) }
 {
-    if number == SHORT_SCRATCH {
-        return true;
-    }
-    number == SHORT_RESULT
+    matches!(rule, Rule::ScratchTooShort | Rule::ResultTooShort)
 }
 
 // The answer to a refusal by rules 1 to 9. The scratch is cleared, unless it is 1 or 2.
-pub fn refuse(number: usize, place: usize, scratch: &mut [u8]) -> u64
-    requires { (number < weight) × (place < weight) × (is_early number ≡ false → scratch_bytes ≤ length scratch.old) }
-    ensures { (result ≡ packed number place 0) × (scratch.new ≡ cond (is_early number) scratch.old (zeroed scratch_bytes scratch.old)) }
+pub fn refuse(fault: Fault, scratch: &mut [u8]) -> u64
+    requires { (fault.place < weight) × (is_early (number_of fault.rule) ≡ false → scratch_bytes ≤ length scratch.old) }
+    ensures { (result ≡ packed (number_of fault.rule) fault.place 0) × (scratch.new ≡ cond (is_early (number_of fault.rule)) scratch.old (zeroed scratch_bytes scratch.old)) }
 {
-    let answer = pack(number, place, 0);
-    if is_early(number) {
-        return answer;
+    if !is_early(fault.rule) {
+        clear(scratch, SCRATCH);
     }
-    clear(scratch);
-    answer
+    pack(fault.rule.number(), fault.place, 0)
 }

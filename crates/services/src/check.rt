@@ -2,9 +2,10 @@
 ghost use Rattle.std.specs.Prelude.{◌≡◌};
 ghost use Rattle.meaning.specs.Lent.{check_call};
 
+use crate::SCRATCH;
 use crate::call::{admitted, refuse};
 use crate::lent::clear;
-use tables::{Checked, MOST_RECORDS};
+use tables::MOST_RECORDS;
 use values::Value;
 use walks::pack;
 
@@ -14,9 +15,9 @@ pub fn dengwizo_check(table: &[u8], scratch: &mut [u8]) -> u64
 {
     let mut index = [0u32; MOST_RECORDS];
     match admitted(table, scratch.len(), Value::LIMIT, &mut index) {
-        Checked::Refused(n, r) => refuse(n, r, scratch),
-        Checked::Accepted(count) => {
-            clear(scratch);
+        Err(fault) => refuse(fault, scratch),
+        Ok(count) => {
+            clear(scratch, SCRATCH);
             pack(0, 0, count)
         }
     }

@@ -11,6 +11,3 @@ pub mod step;
 
 // The bytes of scratch that every service needs, and leaves as zeros.
 pub const SCRATCH: usize = 65536;
-
-// 10: too long a list, or a walk lent with too few entries.
-const LONG_LIST: usize = 10;

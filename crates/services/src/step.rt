@@ -1,42 +1,36 @@
 // The step from a choice list of a table to the next.
 ghost use Rattle.std.specs.Prelude.{◌≡◌, length};
-ghost use Rattle.tables.specs.Reading.{Indexed};
 ghost use Rattle.meaning.specs.Service.{steps};
 ghost use Rattle.meaning.specs.Lent.{step_call};
 ghost use Rattle.services.specs.Left.{Accepts, walk_of, Left};
 
+use crate::SCRATCH;
 use crate::call::{admitted, refuse};
 use crate::lent::{clear, load, store};
-use crate::{LONG_LIST, SCRATCH};
 use choices::list::Walk;
-use tables::{Checked, Index, MOST_RECORDS};
+use tables::sheet::Sheet;
+use tables::{MOST_RECORDS, Rule};
 use values::Value;
-use walks::{pack, stepped_by};
+use walks::pack;
 
-// Steps a lent walk to the next list of an accepted table. The index is the one that the check filled.
+// Steps a lent walk to the next list of an accepted table.
 fn step_accepted(
-    table: &[u8],
-    index: &Index,
+    sheet: &Sheet,
     count: usize,
     entries: &mut [u8],
     len: &mut usize,
     scratch: &mut [u8],
 ) -> u64
-    requires { Accepts table.now count scratch.old × Indexed table.now index.now }
-    ensures { Left (steps (length scratch.old) table.now (walk_of entries.old len.old)) (walk_of entries.old len.old) scratch.old (record { answer = result; scratch = scratch.new; walk = walk_of entries.new len.new }) }
+    requires { Accepts sheet.now count scratch.old }
+    ensures { Left (steps (length scratch.old) sheet.now (walk_of entries.old len.old)) (walk_of entries.old len.old) scratch.old (record { answer = result; scratch = scratch.new; walk = walk_of entries.new len.new }) }
 {
-    let n = *len;
-    if entries.len() < Walk::LIMIT {
-        return pack(LONG_LIST, 0, 0);
+    if entries.len() < Walk::LIMIT || Walk::LIMIT < *len {
+        return pack(Rule::WrongListSize.number(), 0, 0);
     }
-    if Walk::LIMIT < n {
-        return pack(LONG_LIST, 0, 0);
-    }
-    let walk = load(entries, n);
-    let next = stepped_by(walk, table, &mut scratch[..SCRATCH], index, count);
-    let after = next.walk;
-    store(after, entries, len);
-    next.answer
+    let mut walk = load(entries, *len);
+    let answer = walks::step(&mut walk, sheet, count, &mut scratch[..SCRATCH]);
+    store(walk, entries, len);
+    answer
 }
 
 // Steps to the next choice list of a table.
@@ -50,10 +44,11 @@ pub fn dengwizo_step(
 {
     let mut index = [0u32; MOST_RECORDS];
     match admitted(table, scratch.len(), Value::LIMIT, &mut index) {
-        Checked::Refused(n, r) => refuse(n, r, scratch),
-        Checked::Accepted(count) => {
-            let answer = step_accepted(table, &index, count, entries, length, scratch);
-            clear(scratch);
+        Err(fault) => refuse(fault, scratch),
+        Ok(count) => {
+            let sheet = Sheet::new(table, &index);
+            let answer = step_accepted(&sheet, count, entries, length, scratch);
+            clear(scratch, SCRATCH);
             answer
         }
     }

@@ -3,7 +3,7 @@ use mathlib.Core.Path.{◌≡◌, refl, sym, ap, ◌∙◌, subst}
 use mathlib.Core.Bool.{Bool, true, false, cond}
 use mathlib.Core.Option.{Option}
 use mathlib.Core.List.{List, [], ◌++◌, append-nil}
-use Prim.Native.Nat.{ℕ, ◌<◌}
+use Prim.Native.Nat.{ℕ, ◌<◌, ◌-◌}
 use native.Mathlib.Omega.{arith}
 use lib.ListN.{length, take, drop, drop_of_length-le, length-replicate}
 use borrow.Author.Tests.{ltb-true}
@@ -19,32 +19,46 @@ use Rattle.choices.proofs.Walk.{Settles, complete_whole}
 use Rattle.choices.proofs.Came.{came_complete, came_first, came_holds, came_next}
 use Rattle.choices.proofs.Stepping.{step-none}
 use Rattle.values.specs.Value.{Value}
+use Rattle.values.specs.Place.{At}
 use Rattle.lists.specs.Lent.{lent}
 use Rattle.lists.specs.Runs.{UsedWhole as Used}
 use Rattle.tables.specs.Accepted.{records}
 use Rattle.tables.proofs.Laws.Accepted.{accepted_fine}
+use Rattle.meaning.proofs.Laws.ReadBack.{SmallCheck, small_check}
 use Rattle.meaning.specs.Read.{sheet}
 use Rattle.meaning.specs.Answer.{pack}
 use Rattle.meaning.specs.Walk.{overwritten}
 use Rattle.meaning.specs.Service.{tree, last, runs, onward, stepped_from}
 use Rattle.walks.specs.declared.Stepped.{Stepped}
-use Rattle.evaluator.specs.declared.Outcome.{Outcome}
+use Rattle.std.specs.Prelude.{Ok, Err}
+use Rattle.prelude.proofs.Absurd.{impossible}
+use Rattle.prelude.specs.Refusals.{number_of}
+use Rattle.evaluator.specs.declared.Refused.{Refused}
+use Rattle.evaluator.specs.Contract.{Ended, Comes, ended}
+use lib.Dec.{ltb}
 use Rattle.evaluator.specs.Sheet.{Runnable as Asked}
-use Rattle.walks.specs.Steps.{Indexes, packed_of, is_whole, Ran, lent_of, Answers, AtEnd, Steps, outcome_as}
-use Rattle.walks.proofs.Settling.{sure_tree, Arrived}
+use Rattle.walks.specs.Steps.{Walkable, settled, told, valueless, packed_refused, is_of_sheet, Ran, lent_of, Answers, AtEnd, Steps}
+use Rattle.walks.proofs.Settling.{sure_tree, is_whole, Arrived, arrived, ran}
 
--- ---- the index
+-- ---- the table
 
--- A table that is accepted and indexed can be run, and has at least one record.
-module _ (table index : List ℕ) (count : ℕ) (s : List ℕ) (y : Indexes table index count s) where
-  pub asked : (d : Choices) → Invariant d → Asked table index count s d
-  asked d k = record { accepted = y.ok; indexed = y.indexed; room = y.room; sound = k }
+-- A table that is accepted can be run, and has at least one record.
+module _ (table : List ℕ) (count : ℕ) (s : List ℕ) (y : Walkable table count s) where
+  pub asked : (d : Choices) → Invariant d → Asked table count s d
+  asked d k = record { accepted = y.ok; room = y.room; sound = k }
 
   pub count_all : count ≡ length (records table)
   count_all = (accepted_fine table count y.ok).1
 
   pub count_some : 0 < count
   count_some = omega (arith, count_all, (accepted_fine table count y.ok).0.some_record)
+
+  pub count_few : count - 1 < 256
+  count_few = omega (arith, subst SmallCheck y.ok (small_check table))
+
+  -- What a run tells of its list.
+  pub told_run : (l : List ℕ) (c : Choices) (o : Ended) (d : Choices) (t : List ℕ) → Made l false c → Comes (tree table) (At t 0) c (ended o d) → (r : Ended) → r ≡ settled o d (count - 1) → Ran table l t r
+  told_run l c o d t m h r e = ran table l c o d t m (arrived table c o d t h) r (e ∙ ap (λ n. settled o d (n - 1)) count_all)
 
 -- ---- the first list
 
@@ -55,7 +69,7 @@ module _ (w : Held) (h : Lists w []) where
   pub empty_list : list_held w ≡ []
   empty_list = ap (λ n. take n w.entries) h.long
 
-module _ (table : List ℕ) (c : Choices) (o : Outcome) (d : Choices) (t : List ℕ) (a : Arrived table c o d t) where
+module _ (table : List ℕ) (c : Choices) (o : Ended) (d : Choices) (t : List ℕ) (a : Arrived table c o d t) where
   first_holds : Made [] true c → Holds d (first_list (tree table))
   first_holds m = came_holds (tree table) (first_list (tree table)) true a.came (came_first (tree table) a.came (sure_tree table).full m)
 
@@ -69,40 +83,44 @@ module _ (table : List ℕ) (c : Choices) (o : Outcome) (d : Choices) (t : List 
       let v = came_complete (tree table) a.came (list_held w) m full in
       (v, (came_holds (tree table) (list_held w) false a.came v).used)
 
-whole_of : (f : Final Value) → is_whole (outcome_as f) ≡ true → Settles f
-whole_of (result v) e = tt
-whole_of (refuses n p k) e = ltb-true n 32 e
+whole_of : (o : Ended) (f : Final Value) → told o ≡ valueless f → is_whole o ≡ true → Settles f
+whole_of o (result v) q e = tt
+whole_of (Ok u) (refuses n p k) q e = impossible cc
+whole_of (Err x) (refuses n p k) q e = let i : number_of x.refusal ≡ n = cc in omega (arith, ltb-true (number_of x.refusal) 32 e)
 
-module _ (table l t : List ℕ) (o : Outcome) (r : Ran table l t o) where
+module _ (table l t : List ℕ) (o : Ended) (r : Ran table l t o) where
   pub complete_ran : is_whole o ≡ true → Complete (tree table) l
   complete_ran e =
       (complete_whole (tree table) l (last (sheet table)) (sure_tree table).numbered).1
-      (whole_of (runs table l) (ap is_whole (sym r.outcome) ∙ e))
+      (whole_of o (runs table l) r.outcome e)
 
 -- ---- answers
 
-not_whole : (f : Final Value) (next : Final (List ℕ)) (w : Held) → Runnable w → is_whole (outcome_as f) ≡ false → Answers (stepped_from f next) w (record { answer = packed_of (outcome_as f); walk = w })
-not_whole (result v) next w y e = let z : ◌≡◌ {A = ℕ} 0 1 = absurd_bool e in absurd (omega arith)
-  where
-    absurd_bool : true ≡ false → ◌≡◌ {A = ℕ} 0 1
-    absurd_bool q = cc
-not_whole (refuses n p k) next w y e = subst (λ x. Answers x w (record { answer = pack n p k; walk = w })) (sym (ap (λ b. cond b next (refuses n p k)) e)) (record { answer = refl; walk = refl; sized = y.sized })
+not_whole : (x : Refused) (f : Final Value) (next : Final (List ℕ)) (w : Held) → told (Err x) ≡ valueless f → Runnable w → is_of_sheet x.refusal ≡ false → Answers (stepped_from f next) w (record { answer = packed_refused x; walk = w })
+not_whole x (result v) next w q y e = impossible cc
+not_whole x (refuses n p k) next w q y e =
+    let i : number_of x.refusal ≡ n = cc in
+    let j : x.place ≡ p = cc in
+    let l : x.count ≡ k = cc in
+    subst (λ (f : Final Value). Answers (stepped_from f next) w (record { answer = packed_refused x; walk = w })) (λ z. refuses (i z) (j z) (l z))
+    (subst (λ (f : Final (List ℕ)). Answers f w (record { answer = packed_refused x; walk = w })) (sym (ap (λ b. cond b next (refuses (number_of x.refusal) x.place x.count)) e)) (record { answer = refl; walk = refl; sized = y.sized }))
 
-whole_on : (f : Final Value) (next : Final (List ℕ)) → is_whole (outcome_as f) ≡ true → stepped_from f next ≡ next
-whole_on (result v) next e = refl
-whole_on (refuses n p k) next e = ap (λ b. cond b next (refuses n p k)) e
+whole_on : (o : Ended) (f : Final Value) (next : Final (List ℕ)) → told o ≡ valueless f → is_whole o ≡ true → stepped_from f next ≡ next
+whole_on o (result v) next q e = refl
+whole_on (Ok u) (refuses n p k) next q e = impossible cc
+whole_on (Err x) (refuses n p k) next q e = let i : number_of x.refusal ≡ n = cc in ap (λ b. cond b next (refuses n p k)) (sym (ap (λ m. ltb m 32) i) ∙ e)
 
-module _ (table t : List ℕ) (w : Held) (o : Outcome) (r : Ran table (list_held w) t o) where
+module _ (table t : List ℕ) (w : Held) (o : Ended) (r : Ran table (list_held w) t o) where
   abbrev next : Final (List ℕ)
   next = onward (next_list (tree table) (list_held w))
 
-  pub steps_other : Runnable w → is_whole o ≡ false → (a : ℕ) → a ≡ packed_of o → Steps table w (record { answer = a; walk = w })
-  steps_other y e a q =
-      subst (λ x. Answers (stepped_from (runs table (list_held w)) next) w (record { answer = x; walk = w })) (sym (q ∙ ap packed_of r.outcome))
-      (not_whole (runs table (list_held w)) next w y (ap is_whole (sym r.outcome) ∙ e))
+  pub steps_other : Runnable w → (x : Refused) → o ≡ Err x → is_of_sheet x.refusal ≡ false → (a : ℕ) → a ≡ packed_refused x → Steps table w (record { answer = a; walk = w })
+  steps_other y x h e a q =
+      subst (λ z. Answers (stepped_from (runs table (list_held w)) next) w (record { answer = z; walk = w })) (sym q)
+      (not_whole x (runs table (list_held w)) next w (ap told (sym h) ∙ r.outcome) y e)
 
   pub steps_on : is_whole o ≡ true → (s : Stepped) → Answers next w s → Steps table w s
-  steps_on e s h = subst (λ x. Answers x w s) (sym (whole_on (runs table (list_held w)) next (ap is_whole (sym r.outcome) ∙ e))) h
+  steps_on e s h = subst (λ x. Answers x w s) (sym (whole_on o (runs table (list_held w)) next r.outcome e)) h
 
 -- A granted step overwrites all 64 entries.
 walk_over : (w : Held) (m : List ℕ) (v : Held) → Runnable w → v.entries ≡ padded m → v.len ≡ length m → lent_of v ≡ overwritten m (lent_of w)
@@ -122,7 +140,7 @@ module _ (table : List ℕ) (w : Held) (run₀ : List ℕ) (b : AtEnd table w ru
         subst (λ (o : Option (List ℕ)). Answers (onward o) w (record { answer = a; walk = w })) (sym (step-none (tree table) (list_held w) false (lent run₀) _ b.ended k q))
         (record { answer = e; walk = refl; sized = b.runnable.sized })
 
-    pub answers_next : more ≡ true → (o : Outcome) (d : Choices) (t : List ℕ) → Arrived table (lent run₁) o d t → (v : Held) → v.entries ≡ d.entries → v.len ≡ d.len → (a : ℕ) → a ≡ pack 0 0 0
+    pub answers_next : more ≡ true → (o : Ended) (d : Choices) (t : List ℕ) → Arrived table (lent run₁) o d t → (v : Held) → v.entries ≡ d.entries → v.len ≡ d.len → (a : ℕ) → a ≡ pack 0 0 0
         → Answers (onward (next_list (tree table) (list_held w))) w (record { answer = a; walk = v })
     answers_next q o d t h v e n a z =
         let f = came_next (tree table) (list_held w) false (sure_tree table).full b.complete b.ended k q h.came in

@@ -1,5 +1,5 @@
 -- What running a list, the first list and the step answer, as the code has it, and what is asked for them.
-use Rattle.std.specs.Prelude.{◌≡◌, Bool, true, false, cond, List, ℕ, ◌<◌, ltb, length}
+use Rattle.std.specs.Prelude.{◌≡◌, Bool, false, cond, List, ℕ, ltb, length, Ok, Err}
 use Rattle.choices.specs.State.{Choices, view, Invariant}
 use Rattle.choices.specs.declared.list.Walk.{Walk as Held}
 use Rattle.choices.specs.Tree.{Final, result, refuses, most_choices}
@@ -11,58 +11,56 @@ use Rattle.lists.specs.Lent.{lent}
 use Rattle.values.specs.Value.{Value}
 use Rattle.values.specs.Place.{At}
 use Rattle.tables.specs.Check.{check}
-use Rattle.tables.specs.Reading.{Indexed}
-use Rattle.tables.specs.declared.Checked.TheVariants.{Accepted}
-use Rattle.meaning.specs.Answer.{weight, pack, packed, uncounted}
+use Rattle.meaning.specs.Answer.{pack, packed, uncounted}
 use Rattle.meaning.specs.Walk.{Walk}
 use Rattle.meaning.specs.Service.{scratch_bytes, tree, runs, stepped_from, onward}
 use Rattle.meaning.specs.Lent.{walk_after}
 use Rattle.walks.specs.declared.Stepped.{Stepped}
-use Rattle.evaluator.specs.declared.Outcome.{Outcome}
-use Rattle.evaluator.specs.declared.Outcome.TheVariants.{Value as HasValue, Refused}
+use Rattle.prelude.specs.declared.Refusal.{Refusal}
+use Rattle.prelude.specs.declared.Refusal.TheVariants.{EntriesLeft}
+use Rattle.prelude.specs.Refusals.{number_of}
+use Rattle.evaluator.specs.declared.Refused.{Refused}
+use Rattle.evaluator.specs.Contract.{Ended, refusal_at}
 
--- An accepted table, an index of its records, of which there are `count`, and the scratch of a run.
-pub record Indexes (table index : List ℕ) (count : ℕ) (s : List ℕ) : Type 0 where
-  pub ok : check table ≡ Accepted count
+-- An accepted table, of `count` records, and the scratch of a run.
+pub record Walkable (table : List ℕ) (count : ℕ) (s : List ℕ) : Type 0 where
+  pub ok : check table ≡ Ok count
   pub room : length s ≡ scratch_bytes
-  pub indexed : Indexed table index
 
 -- ---- outcomes: the code's word for what a run answers
 
--- The code's outcome for a final answer.
-abbrev pub outcome_as : {A : Type 0} → Final A → Outcome
-outcome_as (result a) = HasValue
-outcome_as (refuses n p k) = Refused n p k
+-- What the code's outcome tells, which has no value in it.
+abbrev pub told : Ended → Final (Unit {0})
+told (Ok u) = result tt
+told (Err e) = refuses (number_of e.refusal) e.place e.count
 
--- Number, place and count can be packed into one number.
-abbrev pub Small : Outcome → Type 0
-Small HasValue = Unit {0}
-Small (Refused n p k) = (n < weight) × (p < weight) × (k < weight)
+-- A final answer without its value.
+abbrev pub valueless : {A : Type 0} → Final A → Final (Unit {0})
+valueless (result a) = result tt
+valueless (refuses n p k) = refuses n p k
 
--- The number of an outcome: that of success where there is a value.
-abbrev pub packed_of : Outcome → ℕ
-packed_of HasValue = pack 0 0 0
-packed_of (Refused n p k) = pack n p k
+-- A refusal as one number.
+abbrev pub packed_refused : Refused → ℕ
+packed_refused e = pack (number_of e.refusal) e.place e.count
 
--- The list is complete: its run ended in a value or 20 to 31.
-abbrev pub is_whole : Outcome → Bool
-is_whole HasValue = true
-is_whole (Refused n p k) = ltb n 32
+-- The list is complete: its run ended in 20 to 31.
+abbrev pub is_of_sheet : Refusal → Bool
+is_of_sheet x = ltb (number_of x) 32
 
 -- 34 in place of a value and of 20 to 31, where entries are left.
-abbrev pub left_over : Outcome → ℕ → Outcome
-left_over HasValue last = Refused 34 last 0
-left_over (Refused n p k) last = cond (ltb n 32) (Refused 34 p 0) (Refused n p k)
+abbrev pub left_over : Ended → ℕ → Ended
+left_over (Ok u) last = Err (refusal_at EntriesLeft last)
+left_over (Err e) last = cond (is_of_sheet e.refusal) (Err (refusal_at EntriesLeft e.place)) (Err e)
 
 -- What a run answers: its outcome, where no entry is left.
-abbrev pub settled : Outcome → Choices → ℕ → Outcome
+abbrev pub settled : Ended → Choices → ℕ → Ended
 settled o d last = cond (ltb d.used d.len) (left_over o last) o
 
 -- ---- the run of a list
 
 -- The outcome of the run of a list is the definition's, and its value stands at the start of the scratch.
-pub record Ran (table l s : List ℕ) (o : Outcome) : Type 0 where
-  pub outcome : o ≡ outcome_as (runs table l)
+pub record Ran (table l s : List ℕ) (o : Ended) : Type 0 where
+  pub outcome : told o ≡ valueless (runs table l)
   pub value : (v : Value) → runs table l ≡ result v → At s 0 v
 
 -- ---- from one list to the next
@@ -84,9 +82,9 @@ pub record AtEnd (table : List ℕ) (w : Held) (run : List ℕ) : Type 0 where
   pub sound : Invariant (lent run)
   pub ended : view (lent run) ≡ at_end (tree table) (list_held w) false
 
--- A step asks for an accepted table with its index, and a walk whose list can be run.
-pub record Steppable (table s index : List ℕ) (count : ℕ) (w : Held) : Type 0 where
-  pub indexes : Indexes table index count s
+-- A step asks for an accepted table, and a walk whose list can be run.
+pub record Steppable (table : List ℕ) (count : ℕ) (s : List ℕ) (w : Held) : Type 0 where
+  pub walkable : Walkable table count s
   pub runnable : Runnable w
 
 -- It answers 32, 33 or 34 where the run of the walk's list does, and otherwise the next complete list, or 35.

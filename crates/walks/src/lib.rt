@@ -9,22 +9,18 @@ ghost use Rattle.choices.specs.Paths.{first_list, next_list};
 ghost use Rattle.lists.specs.Lent.{lent};
 ghost use Rattle.meaning.specs.Answer.{weight, pack};
 ghost use Rattle.meaning.specs.Service.{tree, onward};
-ghost use Rattle.walks.specs.Steps.{Indexes, settled, is_whole, Small, packed_of, Ran, Answers, AtEnd, Steppable, Steps};
+ghost use Rattle.walks.specs.Steps.{Walkable, is_of_sheet, packed_refused, settled, Ran, Answers, AtEnd, Steppable, Steps};
 
 use choices::list::Walk;
-use evaluator::{Outcome, run_sheet};
-use lists::{LEN, RUN, USED, advance, list_of, start, start_walk};
-use tables::Index;
-use tables::shape::wide;
+use evaluator::{Refused, run_sheet};
+use lists::{LEN, Run, USED, advance, list_of, start, start_walk};
+use prelude::Refusal;
+use tables::sheet::Sheet;
 
 // What one unit of the place adds to an answer. One unit of the count adds the square of it.
 const WEIGHT: usize = 65536;
 
-// 34: entries left over. 35: no next list. From 32 on a refusal is the list's, and the list is not complete.
-const LIST: usize = 32;
-
-const LEFT: usize = 34;
-
+// 35: no next list.
 const NO_NEXT: usize = 35;
 
 // Number, place and count as one number.
@@ -35,70 +31,69 @@ pub fn pack(number: usize, place: usize, count: usize) -> u64
     (number + WEIGHT * (place + WEIGHT * count)) as u64
 }
 
-// An outcome as one number: that of success where there is a value.
-pub fn pack_outcome(o: Outcome) -> u64
-    requires { Small o }
-    ensures { result ≡ packed_of o }
+// A refusal as one number.
+pub fn pack_refused(e: Refused) -> u64
+    ensures { result ≡ packed_refused e }
 {
-    match o {
-        Outcome::Value => pack(0, 0, 0),
-        Outcome::Refused(n, p, k) => pack(n, p, k),
-    }
+    pack(
+        e.refusal.number(),
+        usize::from(e.place),
+        usize::from(e.count),
+    )
 }
 
-// Whether a list whose run answers the outcome is complete.
-fn is_whole(o: Outcome) -> bool
-    ensures { result ≡ is_whole o }
+// Whether a run that is so refused followed a complete list: the refusal is none of the list's own.
+fn is_of_sheet(refusal: Refusal) -> bool
+    ensures { result ≡ is_of_sheet refusal }
 {
-    match o {
-        Outcome::Value => true,
-        Outcome::Refused(n, _, _) => n < LIST,
-    }
+    !matches!(
+        refusal,
+        Refusal::ListTooShort | Refusal::EntryTooHigh | Refusal::EntriesLeft
+    )
 }
 
 // Whether a run left entries of its list.
-fn has_left(run: &[u8; RUN]) -> bool
+fn has_left(run: &Run) -> bool
     requires { Invariant (lent run.now) }
     ensures { result ≡ ltb (lent run.now).used (lent run.now).len }
 {
-    wide(run[USED]) < wide(run[LEN])
+    run[USED] < run[LEN]
 }
 
 // The outcome of a run under a list: where entries are left, 34 stands in place of a value, at the place `last`, and of 20 to 31, at their own place.
-fn settle(o: Outcome, run: &[u8; RUN], last: usize) -> Outcome
-    requires { Invariant (lent run.now) }
+fn settle(o: Result<(), Refused>, run: &Run, last: usize) -> Result<(), Refused>
+    requires { Invariant (lent run.now) × (last < 256) }
     ensures { result ≡ settled o (lent run.now) last }
 {
     if !has_left(run) {
         return o;
     }
-    match o {
-        Outcome::Value => Outcome::Refused(LEFT, last, 0),
-        Outcome::Refused(n, p, k) => if n < LIST {
-            Outcome::Refused(LEFT, p, 0)
-        } else {
-            Outcome::Refused(n, p, k)
-        },
+    let Err(e) = o else {
+        return Err(Refused::at(Refusal::EntriesLeft, last));
+    };
+    if is_of_sheet(e.refusal) {
+        return Err(Refused::at(Refusal::EntriesLeft, usize::from(e.place)));
     }
+    o
 }
 
 // The run of a list: a value, 20 to 31, or 32, 33 or 34. The value stands at the start of the scratch.
-pub fn run_list(list: &[u8], table: &[u8], index: &Index, count: usize, s: &mut [u8]) -> Outcome
-    requires { Indexes table.now index.now count s.old × (length list.now ≤ most_choices) }
-    ensures { Ran table.now list.now s.new result }
+pub fn run_list(list: &[u8], sheet: &Sheet, count: usize, s: &mut [u8]) -> Result<(), Refused>
+    requires { Walkable sheet.now count s.old × (length list.now ≤ most_choices) }
+    ensures { Ran sheet.now list.now s.new result }
 {
     let mut run = start(list, false);
-    let o = run_sheet(table, index, count, s, &mut run);
+    let o = run_sheet(sheet, count, s, &mut run);
     settle(o, &run, count - 1)
 }
 
 // The first list of a table: one run that grows from nothing.
-pub fn first_walk(table: &[u8], index: &Index, count: usize, s: &mut [u8]) -> Walk
-    requires { Indexes table.now index.now count s.old }
-    ensures { Lists result (first_list (tree table.now)) × (length result.entries ≡ most_choices) }
+pub fn first_walk(sheet: &Sheet, count: usize, s: &mut [u8]) -> Walk
+    requires { Walkable sheet.now count s.old }
+    ensures { Lists result (first_list (tree sheet.now)) × (length result.entries ≡ most_choices) }
 {
     let mut run = start_walk(Walk::empty(), true);
-    run_sheet(table, index, count, s, &mut run);
+    let _ = run_sheet(sheet, count, s, &mut run);
     list_of(&run)
 }
 
@@ -111,65 +106,48 @@ pub struct Stepped {
 
 // The step from the end of a complete list's run, which has learnt the numbers of ways: the last entry that can go up goes up, and a run grows from there
 // to a complete list.
-fn next_list(
-    walk: Walk,
-    table: &[u8],
-    index: &Index,
-    count: usize,
-    s: &mut [u8],
-    learnt: [u8; RUN],
-) -> Stepped
-    requires { Indexes table.now index.now count s.old × AtEnd table.now walk learnt }
-    ensures { Answers (onward (next_list (tree table.now) (list_held walk))) walk result }
+fn next_list(walk: Walk, sheet: &Sheet, count: usize, s: &mut [u8], learnt: Run) -> Stepped
+    requires { Walkable sheet.now count s.old × AtEnd sheet.now walk learnt }
+    ensures { Answers (onward (next_list (tree sheet.now) (list_held walk))) walk result }
 {
     let mut run = learnt;
-    let more = advance(&mut run);
-    if !more {
+    if !advance(&mut run) {
         return Stepped {
             answer: pack(NO_NEXT, 0, 0),
             walk,
         };
     }
-    run_sheet(table, index, count, s, &mut run);
+    let _ = run_sheet(sheet, count, s, &mut run);
     Stepped {
         answer: pack(0, 0, 0),
         walk: list_of(&run),
     }
 }
 
-// The step by value: 32, 33 or 34 where the list is not complete, 35 where no list comes after it. The index is the one that the check filled.
-pub fn next_walk(walk: Walk, table: &[u8], s: &mut [u8], index: &Index, count: usize) -> Stepped
-    requires { Steppable table.now s.old index.now count walk }
-    ensures { Steps table.now walk result }
+// The step by value: 32, 33 or 34 where the list is not complete, 35 where no list comes after it.
+pub fn next_walk(walk: Walk, sheet: &Sheet, count: usize, s: &mut [u8]) -> Stepped
+    requires { Steppable sheet.now count s.old walk }
+    ensures { Steps sheet.now walk result }
 {
     let mut run = start_walk(walk, false);
-    let o = run_sheet(table, index, count, s, &mut run);
-    let ran = settle(o, &run, count - 1);
-    if !is_whole(ran) {
-        return Stepped {
-            answer: pack_outcome(ran),
-            walk,
-        };
+    let o = run_sheet(sheet, count, s, &mut run);
+    if let Err(e) = settle(o, &run, count - 1) {
+        if !is_of_sheet(e.refusal) {
+            return Stepped {
+                answer: pack_refused(e),
+                walk,
+            };
+        }
     }
-    next_list(walk, table, index, count, s, run)
+    next_list(walk, sheet, count, s, run)
 }
 
 // The panel's walk, lent: the step overwrites it, and a refusal leaves it.
-pub fn step(walk: &mut Walk, table: &[u8], s: &mut [u8], index: &Index, count: usize) -> u64
-    requires { Steppable table.now s.old index.now count walk.old }
-    ensures { Steps table.now walk.old (record { answer = result; walk = walk.new }) }
+pub fn step(walk: &mut Walk, sheet: &Sheet, count: usize, s: &mut [u8]) -> u64
+    requires { Steppable sheet.now count s.old walk.old }
+    ensures { Steps sheet.now walk.old (record { answer = result; walk = walk.new }) }
 {
-    let next = next_walk(*walk, table, s, index, count);
+    let next = next_walk(*walk, sheet, count, s);
     *walk = next.walk;
     next.answer
-}
-
-// The step of a walk by value, which is lent to `step`: for callers whose walk lies in lent entries and a length.
-pub fn stepped_by(walk: Walk, table: &[u8], s: &mut [u8], index: &Index, count: usize) -> Stepped
-    requires { Steppable table.now s.old index.now count walk }
-    ensures { Steps table.now walk result }
-{
-    let mut lent = walk;
-    let answer = step(&mut lent, table, s, index, count);
-    Stepped { answer, walk: lent }
 }

@@ -1,9 +1,8 @@
-use Prim.Native.Nat.{◌-◌}
+use Rattle.std.specs.Prelude.{not}
 use Prim.Native.Nat.{◌+◌}
 use Rattle.lists.specs.Lent.{lent}
 use Rattle.evaluator.proofs.Comprehending.{Collects}
 use Rattle.evaluator.specs.Contract.{env_of}
-use Rattle.evaluator.specs.Binding.{cursor_of}
 use Prim.Native.Nat.{◌+◌, ◌*◌}
 use Rattle.evaluator.proofs.Enumerating.{Building}
 use Rattle.evaluator.specs.Building.{Enumerated}
@@ -13,10 +12,7 @@ use Rattle.evaluator.proofs.Surveying.{Counts}
 use Rattle.evaluator.proofs.+evaluation.Given as goal
 
 abbrev pub invariant-built::collect-loop-j : goal.invariant-built::collect-loop-j
-invariant-built::collect-loop-j l = Collects l.table l.index l.r l.k l.initial.s l.base (env_of l.env) (lent l.initial.run) l.n l.s (lent l.run) (cursor_of l.cursor) l.j
-
-abbrev pub decreases-built::collect-loop-j : goal.decreases-built::collect-loop-j
-decreases-built::collect-loop-j l = l.n - l.j
+invariant-built::collect-loop-j l = Collects l.sheet l.r l.k l.initial.s l.base (env_of l.env) (lent l.initial.run) l.n l.s (lent l.run) l.cursor l.j
 
 abbrev pub decreases-begin : goal.decreases-begin
 decreases-begin l = 8 * l.r
@@ -78,26 +74,14 @@ decreases-survey l = 8 * l.r + 2
 abbrev pub decreases-plain::unary : goal.decreases-plain::unary
 decreases-plain::unary l = 8 * l.r + 3
 
-abbrev pub invariant-plain::entries-loop-i : goal.invariant-plain::entries-loop-i
-invariant-plain::entries-loop-i l = Building l.table l.index l.r l.initial.s l.base (env_of l.env) 9 l.n (lent l.initial.run) l.s (lent l.run) l.bad l.i
-
-abbrev pub decreases-plain::entries-loop-i : goal.decreases-plain::entries-loop-i
-decreases-plain::entries-loop-i l = l.n - l.i
+abbrev pub invariant-plain::entries-loop-entry : goal.invariant-plain::entries-loop-entry
+invariant-plain::entries-loop-entry l = Building l.sheet l.r l.initial.s l.base (env_of l.env) 9 l.n (lent l.initial.run) l.s (lent l.run) l.so_far (2 * l.entry)
 
 abbrev pub invariant-plain::items-loop-i : goal.invariant-plain::items-loop-i
-invariant-plain::items-loop-i l = (k-is : Enumerated l.k) × Building l.table l.index l.r l.initial.s l.base (env_of l.env) l.k l.n (lent l.initial.run) l.s (lent l.run) l.bad l.i
+invariant-plain::items-loop-i l = (k-is : Enumerated l.k) × Building l.sheet l.r l.initial.s l.base (env_of l.env) l.k l.n (lent l.initial.run) l.s (lent l.run) l.so_far l.i
 
-abbrev pub decreases-plain::items-loop-i : goal.decreases-plain::items-loop-i
-decreases-plain::items-loop-i l = l.n - l.i
-
-abbrev pub invariant-quantify-all : goal.invariant-quantify-all
-invariant-quantify-all l = Scans l.table l.index l.r l.initial.s l.base (env_of l.env) l.want (lent l.initial.run) l.n l.s (lent l.run) (cursor_of l.cursor) l.found l.j
-
-abbrev pub decreases-quantify-all : goal.decreases-quantify-all
-decreases-quantify-all l = l.n - l.j
+abbrev pub invariant-quantify-loop-j : goal.invariant-quantify-loop-j
+invariant-quantify-loop-j l = Scans l.sheet l.r l.initial.s l.base (env_of l.env) l.want (lent l.initial.run) l.n l.s (lent l.run) l.cursor (not l.want) l.j
 
 abbrev pub invariant-survey-loop-j : goal.invariant-survey-loop-j
-invariant-survey-loop-j l = Counts l.table l.index l.r l.initial.s l.base (env_of l.env) (lent l.initial.run) l.due l.all l.s (lent l.run) (cursor_of l.cursor) l.count l.at l.j
-
-abbrev pub decreases-survey-loop-j : goal.decreases-survey-loop-j
-decreases-survey-loop-j l = l.all - l.j
+invariant-survey-loop-j l = Counts l.sheet l.r l.initial.s l.base (env_of l.env) (lent l.initial.run) l.due l.all l.s (lent l.run) l.cursor l.count l.at l.j

@@ -15,9 +15,9 @@ filled n k m xs ys h j =
 
 pub loop-n-preserved : goal.loop-n-preserved
 loop-n-preserved g c =
-    let grown = filled c.loop-n.n _ c.in-Ok.more c.loop-n.buffer c.read.new.buf c.loop-n.invariant.room c.in-Ok.ensures.bound.0 in
+    let grown = filled c.loop-n.n _ c.in_ok-more.more c.loop-n.buffer c.read.new.buf c.loop-n.invariant.room c.in_ok-more.ensures.bound.0 in
     record {
       room = search rules;
       same_length = search rules;
-      bytes = subst (Consumes _ _) (sym grown) (Consumes-trans _ _ _ _ _ c.loop-n.invariant.bytes c.in-Ok.ensures.bytes.0);
+      bytes = subst (Consumes _ _) (sym grown) (Consumes-trans _ _ _ _ _ c.loop-n.invariant.bytes c.in_ok-more.ensures.bytes.0);
     }

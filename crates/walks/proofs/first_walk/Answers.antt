@@ -17,4 +17,4 @@ list_of-requires c = comes_sound c.run_sheet.ensures
 
 pub returns : goal.returns
 returns c =
-    first_lists c.args.table.now (lent c.start_walk-run.result) c.run_sheet.result (lent c.run_sheet.new.run) c.run_sheet.new.s (arrived c.args.table.now (lent c.start_walk-run.result) c.run_sheet.result (lent c.run_sheet.new.run) c.run_sheet.new.s c.run_sheet.ensures) c.list_of.result c.list_of.ensures.entries c.list_of.ensures.len (subst (λ (l : List ℕ). Made l true (lent c.start_walk-run.result)) (empty_list c.empty.result c.empty.ensures) c.start_walk-run.ensures)
+    first_lists c.args.sheet.now (lent c.start_walk-run.result) c.run_sheet.result (lent c.run_sheet.new.run) c.run_sheet.new.s (arrived c.args.sheet.now (lent c.start_walk-run.result) c.run_sheet.result (lent c.run_sheet.new.run) c.run_sheet.new.s c.run_sheet.ensures) c.list_of.result c.list_of.ensures.entries c.list_of.ensures.len (subst (λ (l : List ℕ). Made l true (lent c.start_walk-run.result)) (empty_list c.empty.result c.empty.ensures) c.start_walk-run.ensures)
