@@ -10,6 +10,11 @@ use std::cmp::Ordering;
 
 pub mod bytes;
 
+// The range of an integer, all of `i32`, named here and nowhere else.
+pub const LEAST: i32 = -2147483648;
+
+pub const GREATEST: i32 = 2147483647;
+
 // left + right
 pub fn add(left: i32, right: i32) -> Result<i32, Refusal>
     ensures { result ≡ sum_of left right }
