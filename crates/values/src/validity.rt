@@ -70,7 +70,10 @@ fn shaped(s: &[u8], from: usize, to: usize, kind: usize) -> bool
     }
     if kind == Value::TUPLE {
         let n = count(s, from, to);
-        return 2 <= n && n <= 4;
+        if n < 2 {
+            return false;
+        }
+        return n <= 4;
     }
     false
 }

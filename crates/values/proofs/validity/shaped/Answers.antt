@@ -1,5 +1,4 @@
 -- `shaped` meets its contract.
-use borrow.Author.Tests.{lt-leb}
 use Rattle.values.specs.Value.{set, sequence, map, tuple}
 use Rattle.values.proofs.Telling.{tells_true}
 use Rattle.values.proofs.Shapes.{shaped_as, shaped_off, tuple_count_few, tuple_most}
@@ -14,11 +13,11 @@ returns-then-kind-eq-SEQUENCE c = shaped_as sequence c.if-kind-eq-SEQUENCE.true 
 pub returns-then-kind-eq-MAP : goal.returns-then-kind-eq-MAP
 returns-then-kind-eq-MAP c = shaped_as map c.if-kind-eq-MAP.true c.entries.ensures
 
-pub returns-else-n-ge2 : goal.returns-else-n-ge2
-returns-else-n-ge2 c = rw (lt-leb 2 _ c.if-n-ge2.false) (shaped_as tuple c.if-kind-eq-TUPLE.true (tuple_count_few c.count-n.ensures c.if-n-ge2.false))
+pub returns-then-n-lt2 : goal.returns-then-n-lt2
+returns-then-n-lt2 c = shaped_as tuple c.if-kind-eq-TUPLE.true (tuple_count_few c.count-n.ensures c.if-n-lt2.true)
 
-pub returns-then-n-ge2 : goal.returns-then-n-ge2
-returns-then-n-ge2 c = shaped_as tuple c.if-kind-eq-TUPLE.true (tuple_most c.count-n.ensures c.if-n-ge2.true)
+pub returns-then-kind-eq-TUPLE : goal.returns-then-kind-eq-TUPLE
+returns-then-kind-eq-TUPLE c = shaped_as tuple c.if-kind-eq-TUPLE.true (tuple_most c.count-n.ensures c.if-n-lt2.false)
 
 pub returns : goal.returns
 returns c =
