@@ -183,22 +183,40 @@ fn lowest8(
     (0..count).find(|&r| breaks8(sheet, r, below, above))
 }
 
-// The first of rules 7 and 8 that is broken, and the lowest record at fault.
-pub fn scope_fault(sheet: &Sheet, count: usize) -> Option<Fault>
+// The lowest record that breaks rule 7, and the lowest that breaks rule 8, if there are such.
+#[derive(Clone, Copy)]
+pub struct Lows {
+    pub low7: Option<usize>,
+    pub low8: Option<usize>,
+}
+
+// The lowest records that break rules 7 and 8.
+pub fn lowest78(sheet: &Sheet, count: usize) -> Lows
     requires { KeepsRule6 sheet.now count }
-    ensures { result ≡ broken_scope (records sheet.now) count }
+    ensures { (result.low7 ≡ found (fault7_of (records sheet.now)) count) × (result.low8 ≡ found (fault8_of (records sheet.now)) count) }
 {
     let mut below = [0u32; MOST_RECORDS];
     fill_below(sheet, count, &mut below);
     let mut above = [0u32; MOST_RECORDS];
     fill_around(sheet, count, &below, &mut above);
-    if let Some(place) = lowest7(sheet, count, &above) {
+    let low7 = lowest7(sheet, count, &above);
+    let low8 = lowest8(sheet, count, &below, &above);
+    Lows { low7, low8 }
+}
+
+// The first of rules 7 and 8 that is broken, and the lowest record at fault.
+pub fn scope_fault(sheet: &Sheet, count: usize) -> Option<Fault>
+    requires { KeepsRule6 sheet.now count }
+    ensures { result ≡ broken_scope (records sheet.now) count }
+{
+    let lows = lowest78(sheet, count);
+    if let Some(place) = lows.low7 {
         return Some(Fault {
             rule: Rule::WrongBinding,
             place,
         });
     }
-    let place = lowest8(sheet, count, &below, &above)?;
+    let place = lows.low8?;
     Some(Fault {
         rule: Rule::ChoiceInCondition,
         place,

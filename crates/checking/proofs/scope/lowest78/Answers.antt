@@ -1,7 +1,7 @@
--- The bits below, then the bits around, then both rules.
+-- The bits below, then the bits around, then the lowest record at fault of either rule.
 use Rattle.checking.proofs.Above.{around_start}
 use Rattle.tables.specs.Accepted.{records}
-use Rattle.checking.proofs.scope.scope_fault.Goals as goal
+use Rattle.checking.proofs.scope.lowest78.Goals as goal
 
 pub fill_around-requires : goal.fill_around-requires
 fill_around-requires c =
