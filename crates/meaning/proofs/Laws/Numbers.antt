@@ -1,9 +1,9 @@
 -- Every refusal of an operator has a number from 20 to 30, other than 24.
-use Rattle.std.specs.Prelude.{◌≡◌, Bool, true, false, cond, List, [], ◌∷◌, ℕ, zero, suc, ◌+◌, ◌≤◌, leb, ℤ, pos, negsuc, Ok, Err, get_or}
+use Rattle.std.specs.Prelude.{◌≡◌, refl, ◌⊎◌, Bool, true, false, cond, List, [], ◌∷◌, ℕ, zero, suc, ◌+◌, ◌≤◌, leb, ℤ, pos, negsuc, Ok, Err, get_or}
 use Rattle.std.proofs.Math.Option.{Option, none as absent, some}
-use Rattle.std.proofs.Common.{arith}
-use Rattle.prelude.specs.declared.Refusal.TheVariants.{OutOfRange}
-use Rattle.integers.specs.Whole.{in_range, ranged, divided}
+use Rattle.std.proofs.Common.{sym, subst, inl, inr, arith}
+use Rattle.prelude.specs.declared.Refusal.TheVariants.{OutOfRange, ByZero}
+use Rattle.integers.specs.Whole.{Number, in_range, ranged, divided}
 use Rattle.values.specs.Value.{Kind, set, sequence, map, tuple, Value, boolean, integer, quote, collection, Items, none, more, sizes, value_limit, count}
 use Rattle.values.specs.Items.{same, lookup, join, snoc, insert, enter}
 use Rattle.operators.specs.Answer.{Answer, is, refused, Built, built, stopped, needs, needs_both, found, fitting, closed, sized, as_boolean, as_integer, as_set, as_sequence, as_map}
@@ -63,16 +63,28 @@ if_closed k (stopped n) h = h
 if_sized : (k : Kind) (vs : Items) → Answered (sized k vs)
 if_sized k vs = if_closed k (fitting vs) (if_fitting vs)
 
+-- What an operation on integers answers: an integer, or a refusal for the range or for a divisor of 0.
+abbrev pub OfIntegers : Number → Type 0
+OfIntegers n = ((z : ℤ) × (n ≡ Ok z)) ⊎ ((n ≡ Err OutOfRange) ⊎ (n ≡ Err ByZero))
+
+pub if_number : (n : Number) → OfIntegers n → Answered (answered n)
+if_number n (inl (z, e)) = subst (λ (m : Number). Answered (answered m)) (sym e) tt
+if_number n (inr (inl e)) = subst (λ (m : Number). Answered (answered m)) (sym e) (omega arith, omega arith, λ e. omega arith)
+if_number n (inr (inr e)) = subst (λ (m : Number). Answered (answered m)) (sym e) (omega arith, omega arith, λ e. omega arith)
+
+pick_of_integers : (b : Bool) (z : ℤ) → OfIntegers (cond b (Ok z) (Err OutOfRange))
+pick_of_integers true z = inl (z, refl)
+pick_of_integers false z = inr (inl refl)
+
 pick_number : (b : Bool) (z : ℤ) → Answered (answered (cond b (Ok z) (Err OutOfRange)))
-pick_number true z = tt
-pick_number false z = (omega arith, omega arith, λ e. omega arith)
+pick_number b z = if_number (cond b (Ok z) (Err OutOfRange)) (pick_of_integers b z)
 
 if_ranged : (z : ℤ) → Answered (answered (ranged z))
 unfolding ranged
 if_ranged z = pick_number (in_range z) z
 
 if_divided : (d z : ℤ) → Answered (answered (divided d z))
-if_divided (pos zero) z = (omega arith, omega arith, λ e. omega arith)
+if_divided (pos zero) z = if_number (Err ByZero) (inr (inr refl))
 if_divided (pos (suc n)) z = if_ranged z
 if_divided (negsuc n) z = if_ranged z
 
