@@ -1,21 +1,46 @@
 -- Laws of the range and of answers. Only `range_fits`, `fits_range` and the laws of sizes depend on the two limits themselves.
 use mathlib.Core.Path.{◌≡◌, refl, sym, ap, ◌∙◌}
-use mathlib.Core.Bool.{Bool, true, false, cond}
+use mathlib.Core.Bool.{Bool, true, false, and-false, cond}
 use Prim.Native.Nat.{zero, suc, ◌≤◌}
 use native.Mathlib.Omega.{arith}
-use borrow.Author.Tests.{leb-true, le-leb}
+use borrow.Author.Tests.{leb-true, le-leb, ltb-true, ltb-false, lt-leb}
 use lib.IntN.{ℤ, pos, negsuc}
-use lib.Signed.{mag, le_z}
+use lib.Signed.{mag, lt_z, le_z}
 use mir.Syntax.{w32}
 use mir.Val.{SFits}
 use mathlib.Mathlib.Data.Bool.Basic.{and_elim_left}
 use Rattle.prelude.proofs.Truth.{by_test}
+use Rattle.prelude.proofs.Absurd.{never}
 use Rattle.std.specs.Prelude.{Option, Some, None, Ok, Err, SomeIff}
 use Rattle.std.specs.Option.{ok_or}
 use Rattle.prelude.specs.declared.Refusal.TheVariants.{OutOfRange, ByZero}
 use Rattle.integers.specs.Whole.{least_integer, greatest_integer, in_range, InRange, ranged, divided}
 
+-- ---- tests
+
+lt_not_le : (a b : ℤ) → lt_z a b ≡ true → le_z b a ≡ false
+lt_not_le (pos a) (pos b) e = lt-leb b a (ltb-true a b e)
+lt_not_le (pos a) (negsuc b) e = never e
+lt_not_le (negsuc a) (pos b) e = refl
+lt_not_le (negsuc a) (negsuc b) e = lt-leb a b (ltb-true b a e)
+
+not_lt_le : (a b : ℤ) → lt_z a b ≡ false → le_z b a ≡ true
+not_lt_le (pos a) (pos b) e = le-leb b a (ltb-false a b e)
+not_lt_le (pos a) (negsuc b) e = refl
+not_lt_le (negsuc a) (pos b) e = sym e
+not_lt_le (negsuc a) (negsuc b) e = le-leb a b (ltb-false b a e)
+
 -- ---- the range
+
+-- the range by two tests of order
+pub below_range : (z : ℤ) → lt_z z least_integer ≡ true → in_range z ≡ false
+below_range z e = rw (lt_not_le z least_integer e)
+
+pub above_range : (z : ℤ) → le_z z greatest_integer ≡ false → in_range z ≡ false
+above_range z e = rw e (and-false (le_z least_integer z))
+
+pub within_range : (z : ℤ) → lt_z z least_integer ≡ false → le_z z greatest_integer ≡ true → InRange z
+within_range z e f = rw (not_lt_le z least_integer e, f)
 
 -- 32 bits hold each integer in range
 pub range_fits : (z : ℤ) → InRange z → SFits w32 z
