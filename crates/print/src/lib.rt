@@ -3,7 +3,6 @@
 
 ghost use Rattle.std.specs.Prelude.{◌≡◌, ◌∷◌, [], ◌++◌, ◌+◌, ◌≤◌, ◌<◌, length};
 ghost use Rattle.prelude.specs.Refusals.{number_of};
-ghost use Rattle.tables.specs.Faults.{number_of as rule_number};
 ghost use Rattle.print.specs.Ascii.{newline};
 ghost use Rattle.print.specs.Text.{decimal, integer_text, truth_text, quote_text, refusal_word, list_text};
 ghost use Rattle.print.specs.Print.{first_line, end_line, cut_line, refused_line};
@@ -11,7 +10,6 @@ ghost use Rattle.print.specs.Contract.{Room, Wrote, short_line, ValueRoom, Value
 
 use choices::list::Walk;
 use prelude::Refusal;
-use tables::Fault;
 use values::Value;
 
 // The longest line of a list: 64 entries of up to three digits, each with a comma or a space after it; `=` and a value's text, which has 3 bytes less
@@ -30,6 +28,25 @@ const SPACE: u8 = b' ';
 
 // A list without entries.
 const NO_ENTRIES: u8 = b'-';
+
+// The least refusal that has a word.
+const FIRST_WORD: usize = 20;
+
+// The words of the refusals 20 to 31.
+const WORDS: [&[u8]; 12] = [
+    b"kind",
+    b"range",
+    b"zero",
+    b"no-match",
+    b"no-binding",
+    b"not-unique",
+    b"absent",
+    b"clash",
+    b"large",
+    b"split",
+    b"bindings",
+    b"choices",
+];
 
 // ---- bytes and numbers
 
@@ -234,25 +251,14 @@ pub fn put_list(list: &[u8], out: &mut [u8], at: usize) -> usize
 }
 
 // The word of a refusal. No complete list comes to the last three, which have none.
-#[tactic(auto, unfolding(crate::specs::Text::refusal_word))]
 fn word(refusal: Refusal) -> &'static [u8]
     ensures { result.now ≡ refusal_word (number_of refusal) }
 {
-    match refusal {
-        Refusal::WrongKind => b"kind",
-        Refusal::OutOfRange => b"range",
-        Refusal::ByZero => b"zero",
-        Refusal::NoMatch => b"no-match",
-        Refusal::NoBinding => b"no-binding",
-        Refusal::NotUnique => b"not-unique",
-        Refusal::NotThere => b"absent",
-        Refusal::Clash => b"clash",
-        Refusal::TooLarge => b"large",
-        Refusal::TooLargeToSplit => b"split",
-        Refusal::TooManyBindings => b"bindings",
-        Refusal::TooManyChoices => b"choices",
-        Refusal::ListTooShort | Refusal::EntryTooHigh | Refusal::EntriesLeft => b"",
+    let row = refusal.number() - FIRST_WORD;
+    if row < WORDS.len() {
+        return WORDS[row];
     }
+    b""
 }
 
 // Writes the word of a refusal.
@@ -330,12 +336,12 @@ pub fn put_cut(out: &mut [u8], at: usize) -> usize
 }
 
 // Writes the print of a refused table: `refused`, number and place, parted by single spaces.
-pub fn put_refused(fault: Fault, out: &mut [u8], at: usize) -> usize
+pub fn put_refused(number: usize, place: usize, out: &mut [u8], at: usize) -> usize
     requires { at + short_line ≤ length out.old }
-    ensures { Wrote out.old out.new at (refused_line (rule_number fault.rule) fault.place) result }
+    ensures { Wrote out.old out.new at (refused_line number place) result }
 {
     let start = put_bytes(b"refused ", out, at);
-    let end = put_number(fault.rule.number(), out, start);
+    let end = put_number(number, out, start);
     out[end] = SPACE;
-    put_count(fault.place, out, end + 1)
+    put_count(place, out, end + 1)
 }

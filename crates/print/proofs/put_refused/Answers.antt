@@ -7,7 +7,6 @@ use lib.ListN.{length-set}
 use Rattle.print.specs.Ascii.{ascii}
 use Rattle.print.specs.Text.{decimal}
 use Rattle.print.proofs.Writing.{wrote_then, wrote_byte, wrote_as, wrote_length}
-use Rattle.tables.specs.Faults.{number_of}
 use Rattle.print.proofs.Decimals.{decimal_any}
 use Rattle.print.proofs.put_refused.Goals as goal
 
@@ -17,19 +16,19 @@ parted xs ys a b = simp append_assoc
 
 pub put_number-end-requires : goal.put_number-end-requires
 put_number-end-requires c =
-    omega (arith, decimal_any c.number.result (omega arith), c.put_bytes-start.ensures.ends, wrote_length c.put_bytes-start.ensures)
+    omega (arith, decimal_any c.args.number (omega arith), c.put_bytes-start.ensures.ends, wrote_length c.put_bytes-start.ensures)
 
 pub bounds-out-end : goal.bounds-out-end
 bounds-out-end c =
-    omega (arith, decimal_any c.number.result (omega arith), c.put_bytes-start.ensures.ends, wrote_length c.put_bytes-start.ensures, c.put_number-end.ensures.ends, wrote_length c.put_number-end.ensures)
+    omega (arith, decimal_any c.args.number (omega arith), c.put_bytes-start.ensures.ends, wrote_length c.put_bytes-start.ensures, c.put_number-end.ensures.ends, wrote_length c.put_number-end.ensures)
 
 pub overflow_add-end : goal.overflow_add-end
 overflow_add-end c =
-    omega (arith, decimal_any c.number.result (omega arith), c.put_bytes-start.ensures.ends, wrote_length c.put_bytes-start.ensures, c.put_number-end.ensures.ends, wrote_length c.put_number-end.ensures)
+    omega (arith, decimal_any c.args.number (omega arith), c.put_bytes-start.ensures.ends, wrote_length c.put_bytes-start.ensures, c.put_number-end.ensures.ends, wrote_length c.put_number-end.ensures)
 
 pub put_count-requires : goal.put_count-requires
 put_count-requires c =
-    omega (arith, decimal_any c.number.result (omega arith), c.put_bytes-start.ensures.ends, wrote_length c.put_bytes-start.ensures, c.put_number-end.ensures.ends, wrote_length c.put_number-end.ensures, length-set c.put_number-end.new.out c.put_number-end.result 32)
+    omega (arith, decimal_any c.args.number (omega arith), c.put_bytes-start.ensures.ends, wrote_length c.put_bytes-start.ensures, c.put_number-end.ensures.ends, wrote_length c.put_number-end.ensures, length-set c.put_number-end.new.out c.put_number-end.result 32)
 
 pub shape_of-out : goal.shape_of-out
 shape_of-out c =
@@ -37,4 +36,4 @@ shape_of-out c =
 
 pub returns : goal.returns
 returns c =
-    wrote_as (parted (ascii "refused " ++ decimal (number_of c.args.fault.rule)) (decimal c.args.fault.place) 32 10) (wrote_then (wrote_byte 32 (wrote_then c.put_bytes-start.ensures (rw c.number.ensures at c.put_number-end.ensures))) c.put_count.ensures)
+    wrote_as (parted (ascii "refused " ++ decimal c.args.number) (decimal c.args.place) 32 10) (wrote_then (wrote_byte 32 (wrote_then c.put_bytes-start.ensures c.put_number-end.ensures)) c.put_count.ensures)
