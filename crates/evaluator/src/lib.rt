@@ -153,13 +153,14 @@ fn quantify(
 {
     let mut cursor = begin(sheet, r, s, base, env, run, k)?;
     let n = cursor.count;
-    for j in 0..n {
+    let mut found = !want;
+    'all: for j in 0..n {
         if holds(sheet, r, s, base, env, run, &mut cursor, j)? == want {
-            values::put_boolean(s, base, want);
-            return Ok(());
+            found = want;
+            break 'all;
         }
     }
-    values::put_boolean(s, base, !want);
+    values::put_boolean(s, base, found);
     Ok(())
 }
 

@@ -25,7 +25,7 @@ use Rattle.evaluator.proofs.Adding.{item_off, item_held, item_done, pair_off, pa
 use Rattle.evaluator.proofs.Simple.{built_small}
 use Rattle.evaluator.proofs.Deciding.{let_be_has, let_in_binder, let_in_readable, picks_as, quantify_kind, begins_as, surveys_as, seventeen, single_off}
 use Rattle.evaluator.proofs.Letting.{let_be_off, let_be_none, let_be_some, let_be_unchosen, let_be_stands, let_be_body_off, let_be_copyable, let_be_done, let_in_off, let_in_none, let_in_some, let_in_unchosen, let_in_stands, let_in_body_off, let_in_copyable, let_in_done}
-use Rattle.evaluator.proofs.Quantified.{scans_end, scans_hit, scans_stands, scans_off, scans_more, quantify_off, quantify_start, quantify_whole, quantify_done}
+use Rattle.evaluator.proofs.Quantified.{Settled, settled_as, scans_end, scans_hit, scans_stands, scans_off, scans_more, quantify_off, quantify_start, quantify_whole, quantify_done}
 use Rattle.evaluator.proofs.Unique.{exists1_done, iota_not, iota_stands, iota_done}
 use borrow.Author.Tests.{eq-eqb, ne_eqb}
 use Rattle.evaluator.proofs.Coming.{comes_sound}
@@ -561,20 +561,44 @@ quantify-shape_of-s-in_err-cursor t c = c.in_err-cursor.ensures.kept.long
 pub quantify-returns-in_err-cursor : goal.quantify-returns-in_err-cursor
 quantify-returns-in_err-cursor t c = let p = err_from_is_err_and c.from_residual.result c.from_residual.ensures.1 in rw (p.1, p.2) (quantify_off c.requires.0 c.args.want (c.requires.1 ∙ c.requires.2) (begins_as c.requires.2 c.in_err-cursor.ensures) no_value)
 
-pub quantify-loop-j-init : goal.quantify-loop-j-init
-quantify-loop-j-init t c = quantify_start c.requires.0 c.args.want (c.requires.1 ∙ c.requires.2) (begins_as c.requires.2 c.in_ok-cursor.ensures) refl refl
+pub quantify-all-init : goal.quantify-all-init
+quantify-all-init t c = quantify_start c.requires.0 c.args.want (c.requires.1 ∙ c.requires.2) (begins_as c.requires.2 c.in_ok-cursor.ensures) refl refl
 
 pub quantify-holds-requires : goal.quantify-holds-requires
-quantify-holds-requires t c = (omega (arith, c.decreases), scans_stands c.loop-j.invariant c.loop-j-test.true)
+quantify-holds-requires t c = (omega (arith, c.decreases), scans_stands c.all.invariant c.all-test.true)
 
 pub quantify-shape_of-s-in_err-holds : goal.quantify-shape_of-s-in_err-holds
-quantify-shape_of-s-in_err-holds t c = (c.in_err-holds.ensures.turned c.loop-j.invariant.bindings c.loop-j.invariant.standing).low.long ∙ c.loop-j.invariant.kept.long ∙ c.in_ok-cursor.ensures.kept.long
+quantify-shape_of-s-in_err-holds t c = (c.in_err-holds.ensures.turned c.all.invariant.bindings c.all.invariant.standing).low.long ∙ c.all.invariant.kept.long ∙ c.in_ok-cursor.ensures.kept.long
 
 pub quantify-returns-in_err-holds : goal.quantify-returns-in_err-holds
-quantify-returns-in_err-holds t c = let p = err_from_is_err_and c.from_residual-in_err-holds.result c.from_residual-in_err-holds.ensures.1 in rw (p.1, p.2) (quantify_whole c.requires.0 c.args.want (c.requires.1 ∙ c.requires.2) (begins_as c.requires.2 c.in_ok-cursor.ensures) refl c.loop-j.invariant.only (scans_off c.loop-j.invariant c.loop-j-test.true c.in_err-holds.ensures no_value))
+quantify-returns-in_err-holds t c = let p = err_from_is_err_and c.from_residual-in_err-holds.result c.from_residual-in_err-holds.ensures.1 in rw (p.1, p.2) (quantify_whole c.requires.0 c.args.want (c.requires.1 ∙ c.requires.2) (begins_as c.requires.2 c.in_ok-cursor.ensures) refl c.all.invariant.only (scans_off c.all.invariant c.all-test.true c.in_err-holds.ensures no_value))
 
-pub quantify-loop-j-preserved : goal.quantify-loop-j-preserved
-quantify-loop-j-preserved t c = scans_more c.loop-j.invariant c.loop-j-test.true c.in_ok-holds.ensures refl (beq_not _ _ c.if-branch-want.false) refl refl
+pub quantify-all-preserved : goal.quantify-all-preserved
+quantify-all-preserved t c = scans_more c.all.invariant c.all-test.true c.in_ok-holds.ensures refl (beq_not _ _ c.if-branch-want.false) refl refl
+
+pub quantify-put_boolean-requires : goal.quantify-put_boolean-requires
+quantify-put_boolean-requires t c =
+    let joined : Settled c.args.sheet.now c.args.r c.begin-cursor.new.s c.args.base (env_of c.args.env.now) c.args.want (lent c.begin-cursor.new.run) c.all-test.s (lent c.all-test.run) c.all-test.found = elim c.all-test.branch [
+      | quantify-else-all-test w ↦ settled_as w.s-is (ap lent w.run-is) w.found-is (scans_end c.all.invariant w.all-test.false)
+      | quantify-then-all-test+then-branch-want w ↦ settled_as w.s-is (ap lent w.run-is) w.found-is (scans_hit c.all.invariant w.all-test.true w.in_ok-holds.ensures refl (beq_same _ _ w.if-branch-want.true))
+    ] in
+    omega (arith, room_here c.requires.0, joined.kept.long, c.in_ok-cursor.ensures.kept.long)
+
+pub quantify-shape_of-s : goal.quantify-shape_of-s
+quantify-shape_of-s t c =
+    let joined : Settled c.args.sheet.now c.args.r c.begin-cursor.new.s c.args.base (env_of c.args.env.now) c.args.want (lent c.begin-cursor.new.run) c.all-test.s (lent c.all-test.run) c.all-test.found = elim c.all-test.branch [
+      | quantify-else-all-test w ↦ settled_as w.s-is (ap lent w.run-is) w.found-is (scans_end c.all.invariant w.all-test.false)
+      | quantify-then-all-test+then-branch-want w ↦ settled_as w.s-is (ap lent w.run-is) w.found-is (scans_hit c.all.invariant w.all-test.true w.in_ok-holds.ensures refl (beq_same _ _ w.if-branch-want.true))
+    ] in
+    c.put_boolean.ensures.outside.long ∙ joined.kept.long ∙ c.in_ok-cursor.ensures.kept.long
+
+pub quantify-returns : goal.quantify-returns
+quantify-returns t c =
+    let joined : Settled c.args.sheet.now c.args.r c.begin-cursor.new.s c.args.base (env_of c.args.env.now) c.args.want (lent c.begin-cursor.new.run) c.all-test.s (lent c.all-test.run) c.all-test.found = elim c.all-test.branch [
+      | quantify-else-all-test w ↦ settled_as w.s-is (ap lent w.run-is) w.found-is (scans_end c.all.invariant w.all-test.false)
+      | quantify-then-all-test+then-branch-want w ↦ settled_as w.s-is (ap lent w.run-is) w.found-is (scans_hit c.all.invariant w.all-test.true w.in_ok-holds.ensures refl (beq_same _ _ w.if-branch-want.true))
+    ] in
+    quantify_done c.requires.0 c.args.want (c.requires.1 ∙ c.requires.2) (begins_as c.requires.2 c.in_ok-cursor.ensures) refl joined c.put_boolean.ensures
 
 pub single-survey-requires : goal.single-survey-requires
 single-survey-requires t c = (omega (arith, c.decreases), (c.requires.0, c.requires.1, (omega (arith, c.requires.2.0), omega (arith, c.requires.2.1))))
@@ -716,24 +740,6 @@ binder-at-requires t c = small_place c.requires.0
 
 pub plain::branch-at-requires : goal.plain::branch-at-requires
 plain::branch-at-requires t c = small_place c.requires.0
-
-pub quantify-returns-then-branch-want : goal.quantify-returns-then-branch-want
-quantify-returns-then-branch-want t c = quantify_done c.requires.0 c.args.want (c.requires.1 ∙ c.requires.2) (begins_as c.requires.2 c.in_ok-cursor.ensures) refl (scans_hit c.loop-j.invariant c.loop-j-test.true c.in_ok-holds.ensures refl (beq_same _ _ c.if-branch-want.true)) c.put_boolean.ensures
-
-pub quantify-shape_of-s-then-branch-want : goal.quantify-shape_of-s-then-branch-want
-quantify-shape_of-s-then-branch-want t c = (quantify_done c.requires.0 c.args.want (c.requires.1 ∙ c.requires.2) (begins_as c.requires.2 c.in_ok-cursor.ensures) refl (scans_hit c.loop-j.invariant c.loop-j-test.true c.in_ok-holds.ensures refl (beq_same _ _ c.if-branch-want.true)) c.put_boolean.ensures).kept.long
-
-pub quantify-put_boolean-requires : goal.quantify-put_boolean-requires
-quantify-put_boolean-requires t c = omega (arith, room_here c.requires.0, (scans_hit c.loop-j.invariant c.loop-j-test.true c.in_ok-holds.ensures refl (beq_same _ _ c.if-branch-want.true)).kept.long, c.in_ok-cursor.ensures.kept.long)
-
-pub quantify-put_boolean-requires-2 : goal.quantify-put_boolean-requires-2
-quantify-put_boolean-requires-2 t c = omega (arith, room_here c.requires.0, (scans_end c.loop-j.invariant c.loop-j-test.false).kept.long, c.in_ok-cursor.ensures.kept.long)
-
-pub quantify-returns : goal.quantify-returns
-quantify-returns t c = quantify_done c.requires.0 c.args.want (c.requires.1 ∙ c.requires.2) (begins_as c.requires.2 c.in_ok-cursor.ensures) refl (scans_end c.loop-j.invariant c.loop-j-test.false) c.put_boolean-2.ensures
-
-pub quantify-shape_of-s : goal.quantify-shape_of-s
-quantify-shape_of-s t c = (quantify_done c.requires.0 c.args.want (c.requires.1 ∙ c.requires.2) (begins_as c.requires.2 c.in_ok-cursor.ensures) refl (scans_end c.loop-j.invariant c.loop-j-test.false) c.put_boolean-2.ensures).kept.long
 
 pub survey-overflow_add-count : goal.survey-overflow_add-count
 survey-overflow_add-count t c = omega (arith, c.loop-j.invariant.few, c.loop-j-test.true, c.loop-j.invariant.number, c.loop-j.invariant.standing.window.count, c.loop-j.invariant.standing.window.few)

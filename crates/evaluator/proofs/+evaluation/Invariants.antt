@@ -80,8 +80,8 @@ invariant-plain::entries-loop-entry l = Building l.sheet l.r l.initial.s l.base 
 abbrev pub invariant-plain::items-loop-i : goal.invariant-plain::items-loop-i
 invariant-plain::items-loop-i l = (k-is : Enumerated l.k) × Building l.sheet l.r l.initial.s l.base (env_of l.env) l.k l.n (lent l.initial.run) l.s (lent l.run) l.so_far l.i
 
-abbrev pub invariant-quantify-loop-j : goal.invariant-quantify-loop-j
-invariant-quantify-loop-j l = Scans l.sheet l.r l.initial.s l.base (env_of l.env) l.want (lent l.initial.run) l.n l.s (lent l.run) l.cursor (not l.want) l.j
+abbrev pub invariant-quantify-all : goal.invariant-quantify-all
+invariant-quantify-all l = Scans l.sheet l.r l.initial.s l.base (env_of l.env) l.want (lent l.initial.run) l.n l.s (lent l.run) l.cursor l.found l.j
 
 abbrev pub invariant-survey-loop-j : goal.invariant-survey-loop-j
 invariant-survey-loop-j l = Counts l.sheet l.r l.initial.s l.base (env_of l.env) (lent l.initial.run) l.due l.all l.s (lent l.run) l.cursor l.count l.at l.j
