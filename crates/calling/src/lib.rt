@@ -65,6 +65,7 @@ pub fn put_truth(s: &mut [u8], base: usize, b: bool) -> Result<(), Refusal>
 }
 
 // An integer, 21 or 22 as the answer.
+#[tactic(auto, using(crate::proofs::Answering::gives_off))]
 pub fn put_number(s: &mut [u8], base: usize, n: Result<i32, Refusal>) -> Result<(), Refusal>
     requires { (base + 8 ≤ length s.old) × FineAnswer (answered n) }
     ensures { Gives (answered n) s.old s.new base result }
