@@ -119,7 +119,7 @@ fn push_halves(
 {
     let mask = parts::mask_of(s, part);
     let left = parts::masks::spread(mask, d + 1);
-    let h = parts::halves_by(part, mask, left);
+    let h = parts::halves_by(part.at, mask, left);
     push_piece(sheet, p, 1, s, h.right, agenda, next, top);
     push_piece(sheet, p, 0, s, h.left, agenda, top, top + 1);
     top + 1

@@ -105,9 +105,12 @@ pub record SplitOf (s : List ℕ) (p : Part) (d : ℕ) (r : Halves) : Type 0 whe
   pub right : (k : Kind) (us : List (UnitOf k)) → UnitsHere s p k us → HalvesAre s k (halves_in k (get_or (splits us) d (halves [] []))) r
   pub inside : Inside s p r
 
--- The halves of a part whose units m chooses, of which l chooses those on the left.
+-- The halves of a part at a place whose units m chooses, of which l chooses those on the left.
+abbrev pub halves_at : ℕ → ℕ → ℕ → Halves
+halves_at at m l = record { left = record { at = at; extent = l; how = Units }; right = record { at = at; extent = m - l; how = Units } }
+
 abbrev pub halves_by : Part → ℕ → ℕ → Halves
-halves_by p m l = record { left = record { at = p.at; extent = l; how = Units }; right = record { at = p.at; extent = m - l; how = Units } }
+halves_by p m l = halves_at p.at m l
 
 -- A part denotes a sequence, in a slice whose places fit, and k is the number of one of its cuts.
 pub record CutHeld (s : List ℕ) (p : Part) (k : ℕ) : Type 0 where

@@ -10,7 +10,7 @@ ghost use Rattle.std.specs.Prelude.{◌≡◌, ◌≤◌, ◌<◌, length};
 ghost use Rattle.parts.specs.declared.How.TheVariants.{Whole, Units};
 ghost use Rattle.parts.specs.Part.{PartHeld};
 ghost use Rattle.parts.specs.Word.{code_of};
-ghost use Rattle.parts.specs.Contract.{KindOfPart, CollectionHeld, Countable, OrderedParts, CountOfPart, RunItemHeld, ItemOfRun, whole_at, HasItem, SplitHeld, CutHeld, SplitOf, halves_by, CutOf, Puttable, PutPart, MaskOf};
+ghost use Rattle.parts.specs.Contract.{KindOfPart, CollectionHeld, Countable, OrderedParts, CountOfPart, RunItemHeld, ItemOfRun, whole_at, HasItem, SplitHeld, CutHeld, SplitOf, halves_at, CutOf, Puttable, PutPart, MaskOf};
 
 use runs::Run;
 use std::cmp::Ordering;
@@ -176,7 +176,7 @@ pub fn split_part(s: &[u8], p: Part, d: usize) -> Halves
 {
     let mask = mask_of(s, p);
     let left = masks::spread(mask, d);
-    halves_by(p, mask, left)
+    halves_by(p.at, mask, left)
 }
 
 // The bits that choose, of the units of the whole set or map, those of a part.
@@ -192,12 +192,11 @@ pub fn mask_of(s: &[u8], p: Part) -> usize
     masks::full(n / masks::width(kind))
 }
 
-// The halves of a part whose units a mask chooses, another those on the left.
-pub fn halves_by(p: Part, mask: usize, left: usize) -> Halves
+// The halves of a part at a place whose units a mask chooses, another those on the left.
+pub fn halves_by(at: u32, mask: usize, left: usize) -> Halves
     requires { (mask < 128) × (left ≤ mask) }
-    ensures { result ≡ halves_by p mask left }
+    ensures { result ≡ halves_at at mask left }
 {
-    let at = p.at;
     let right = mask - left;
     Halves {
         left: Part {
