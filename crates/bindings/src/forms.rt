@@ -70,7 +70,7 @@ fn form_one(
     agenda[4] = (1 + 4 * at) as u32;
     agenda[5] = 0;
     let mut found = [0u32; Env::NAMES];
-    forming::solve(sheet, s, agenda, 1, 2, &mut found, rows, order, n)
+    forming::solve_over(sheet, s, agenda, 1, 2, &mut found, rows, order, n)
 }
 
 // The matches of all members from a place up to another.

@@ -8,7 +8,9 @@ use native.Mathlib.Numerals.{add-one}
 use native.Mathlib.Omega.{arith}
 use lib.ListN.{length, get_or, drop, drop_of_length-le}
 use lib.Seq.{drop-cons}
+use Rattle.std.specs.Prelude.{Result}
 use Rattle.prelude.specs.Membership.{In}
+use Rattle.prelude.specs.declared.Refusal.{Refusal}
 use Rattle.prelude.proofs.Membership.{in_left, in_right, in_joined, at_in}
 use Rattle.values.specs.Value.{Value}
 use Rattle.tables.specs.Table.{kind_at}
@@ -16,30 +18,31 @@ use Rattle.tables.specs.Accepted.{records}
 use Rattle.parts.specs.Word.{unpacked}
 use Rattle.parts.proofs.Laws.{part_well_formed}
 use Rattle.patterns.specs.Ways.{gather}
-use Rattle.patterns.specs.Binding.{Binding}
+use Rattle.patterns.specs.Binding.{Binding, place}
 use Rattle.patterns.proofs.Laws.Members.{in_gather, gather_in}
 use Rattle.patterns.proofs.Laws.Together.{append-nil, append_assoc}
 use Rattle.matching.specs.Leaf.{Stands, Grown}
 use Rattle.matching.specs.Node.{inner_of, ways_of, met_by}
-use Rattle.matching.proofs.Naming.{grown_same}
+use Rattle.matching.proofs.Naming.{grown_same, stands_fine}
 use Rattle.forming.specs.Inner.{count_of}
 use Rattle.forming.specs.declared.frames.Frame.{Frame}
 use Rattle.forming.specs.Adding.{adding}
-use Rattle.forming.specs.Laws.Adding.{adding_append, adding_there}
+use Rattle.forming.specs.Laws.Adding.{adding_append, adding_one, adding_there}
 use Rattle.forming.specs.Frames.{entries, agenda_words, frame_at, onto, Advanced, Cleared, heft, rank}
 use Rattle.forming.specs.Onward.{Task, onward, zipped, one_way}
+use Rattle.forming.specs.Laws.Onward.{onward_end}
 use Rattle.forming.specs.Pending.{AgendaIs, tests_first, Pushable, Pushed}
-use Rattle.forming.specs.Rows.{RowsAre}
+use Rattle.forming.specs.Rows.{RowsAre, EntryHeld, Entered, Entry}
 use Rattle.forming.specs.Settled.{TellsSettled}
 use Rattle.forming.specs.Sizes.{TellsSizes, FromHeld, From}
 use Rattle.forming.specs.Whole.{WordMet, SameValue}
-use Rattle.forming.specs.Stack.{Level, LevelIs, StackIs, dues, Accounted, RowsOf, Traced, Stacked, Descending, Solvable}
+use Rattle.forming.specs.Stack.{Level, LevelIs, StackIs, dues, Accounted, RowsOf, Traced, Stacked, Descending, Solvable, Solved}
 use Rattle.forming.proofs.Accounting.{accounted_with}
 use Rattle.forming.proofs.Joining.{tests_alike, tests_room}
 use Rattle.forming.proofs.Ranking.{back_less}
 use Rattle.forming.proofs.Rowing.{rows_rising}
 use Rattle.forming.proofs.Skipping.{from_asked, passed_over}
-use Rattle.forming.proofs.Solving.{agenda_low, falls_on, several_parts, count_room, parts_room, same_way, enough}
+use Rattle.forming.proofs.Solving.{no_task, agenda_low, falls_on, several_parts, count_room, parts_room, same_way, enough}
 use Rattle.forming.proofs.Stacking.{level_kept, stack_kept, restacked}
 
 in_drop : {A : Type 0} (n : ℕ) (xs : List A) (x : A) → In x (drop n xs) → In x xs
@@ -367,3 +370,20 @@ ended table s a found frames depth hit rows order n target h l = go h.levels h.d
     go : (ls : List Level) → length ls ≡ depth → adding (dues ls) h.bindings ≡ target → RowsAre s rows order n target
     go [] d z = subst (RowsAre s rows order n) z h.rows_are
     go (x ∷ ls) d z = absurd (omega arith)
+
+-- ---- an agenda without entries
+
+-- what is found is its one match
+pub entry_alone : (table s a : List ℕ) (head top : ℕ) (m rows order : List ℕ) (n : ℕ) → Solvable table s a head top m rows order n → EntryHeld s m rows order n
+entry_alone table s a head top m rows order n h = record { binding = h.binding; stands = h.stands; bindings = h.bindings; are = h.rows_are }
+
+pub solved_alone : (table s a : List ℕ) (head top : ℕ) (m rows order : List ℕ) (n : ℕ) → head ≤ 0 → (rows' order' : List ℕ) (r : Result ℕ Refusal) → Entry s m rows order n rows' order' r
+    → Solved table s a head top m rows order n a rows' order' r
+solved_alone table s a head top m rows order n l rows' order' r o = record {
+  long = refl;
+  right = λ k.
+      let one : onward k.tasks k.binding ≡ k.binding ∷ [] =
+      ap (λ (ts : List Task). onward ts k.binding) (no_task table s a top head k.tasks k.are l) ∙ onward_end k.binding (stands_fine s m k.binding k.stands) in
+      let all : adding (onward k.tasks k.binding) k.bindings ≡ place k.binding k.bindings = ap (λ (bs : List Binding). adding bs k.bindings) one ∙ adding_one k.binding k.bindings in
+      subst (λ (bs : List Binding). Entered s rows' order' bs r) (sym all) (o.right k.binding k.bindings k.stands k.rows_are);
+}

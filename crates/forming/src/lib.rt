@@ -12,9 +12,10 @@ mod settled;
 mod sizes;
 mod taking;
 
-ghost use Rattle.std.specs.Prelude.{◌≡◌, true, ◌≤◌};
+ghost use Rattle.std.specs.Prelude.{◌≡◌, true, ◌≤◌, ◌<◌};
 ghost use Rattle.tables.specs.Table.{kind_at};
 ghost use Rattle.tables.specs.Accepted.{records};
+ghost use Rattle.tables.specs.Reading.{Indexed};
 ghost use Rattle.matching.specs.Node.{is_split};
 ghost use Rattle.forming.specs.Rows.{EntryHeld};
 ghost use Rattle.forming.specs.Whole.{WordMet, SameValue};
@@ -28,8 +29,8 @@ use matching::nodes;
 use parts::words::Env;
 use parts::{How, Part, words};
 use prelude::Refusal;
-use tables::MOST_RECORDS;
 use tables::sheet::Sheet;
+use tables::{Index, MOST_RECORDS};
 use values::Value;
 
 // An agenda is what is still to be matched. An entry is the record of a pattern, the part that it meets, and the entry that follows. Entry 0 is none, one
@@ -302,7 +303,7 @@ fn down(
     requires { DownHeld sheet.now s.now agenda.now head top found.old frames.old depth hit rows.old order.old n }
     ensures { WentDown sheet.now s.now agenda.now head top found.old frames.old depth hit rows.old order.old n found.new frames.new rows.new order.new result }
 {
-    let Some(left) = taking::take_leaves(sheet, s, agenda, head, found, asks) else {
+    let Some(left) = taking::take_leaves_over(sheet, s, agenda, head, found, asks) else {
         return Ok(Step { n, depth, hit });
     };
     let at = left.wait;
@@ -418,7 +419,7 @@ fn finish(
 }
 
 // All matches of an agenda that go on from what is found: each is inserted.
-pub fn solve(
+pub fn solve_over(
     sheet: &Sheet,
     s: &[u8],
     agenda: &mut Agenda,
@@ -449,4 +450,27 @@ pub fn solve(
         false,
     )?;
     finish(sheet, s, agenda, found, &mut frames, first, rows, order)
+}
+
+// All matches of an agenda in the same way. Of an agenda without entries, which has the one match that is found, no record is read, whatever the table.
+pub fn solve(
+    table: &[u8],
+    index: &Index,
+    s: &[u8],
+    agenda: &mut Agenda,
+    head: usize,
+    top: usize,
+    found: &mut [u32; Env::NAMES],
+    rows: &mut Rows,
+    order: &mut RowOrder,
+    n: usize,
+) -> Result<usize, Refusal>
+    requires { Solvable table.now s.now agenda.old head top found.old rows.old order.old n × (0 < head → Indexed table.now index.now) }
+    ensures { Solved table.now s.now agenda.old head top found.old rows.old order.old n agenda.new rows.new order.new result }
+{
+    if head == 0 {
+        return rows::insert_row(s, found, rows, order, n);
+    }
+    let sheet = Sheet::new(table, index);
+    solve_over(&sheet, s, agenda, head, top, found, rows, order, n)
 }

@@ -1,19 +1,12 @@
-use mathlib.Core.Path.{refl, sym, ◌∙◌}
-use Rattle.std.proofs.lemmas.Result.{err_from_is_err_and}
-use Rattle.forming.proofs.Returning.{starting}
+use native.Mathlib.Omega.{arith}
+use Rattle.forming.proofs.Returning.{entry_alone, solved_alone}
 use Rattle.forming.proofs.solve.Goals as goal
 
-pub down-requires : goal.down-requires
-down-requires c = (_, starting _ _ _ _ _ _ _ _ _ c.requires _ refl)
+pub insert_row-requires : goal.insert_row-requires
+insert_row-requires c = entry_alone _ _ _ _ _ _ _ _ _ c.requires.0
 
-pub returns-in_err-first : goal.returns-in_err-first
-returns-in_err-first c =
-    let p = err_from_is_err_and c.from_residual.result c.from_residual.ensures.1 in
-    rw (p.1, p.2) (record { long = refl; right = λ k. (c.in_err-first.ensures.right _ (starting _ _ _ _ _ _ _ _ _ k _ refl)).full _ refl })
+pub returns-then-head-eq0 : goal.returns-then-head-eq0
+returns-then-head-eq0 c = solved_alone _ _ _ _ _ _ _ _ _ (omega arith) _ _ _ c.insert_row.ensures
 
-pub finish-requires : goal.finish-requires
-finish-requires c = (_, c.in_ok-first.ensures.right _ (starting _ _ _ _ _ _ _ _ _ c.requires _ refl))
-
-pub returns : goal.returns
-returns c =
-    record { long = c.finish.ensures.long ∙ sym c.requires.long; right = λ k. c.finish.ensures.right _ (c.in_ok-first.ensures.right _ (starting _ _ _ _ _ _ _ _ _ k _ refl)) }
+pub new-sheet-requires : goal.new-sheet-requires
+new-sheet-requires c = c.requires.1 (omega arith)

@@ -15,8 +15,8 @@ overflow_add-agenda c = omega (arith, at_low _ _ _ _ _ _ _ _ c.requires)
 pub overflow_cast-agenda-2 : goal.overflow_cast-agenda-2
 overflow_cast-agenda-2 c = omega (arith, at_low _ _ _ _ _ _ _ _ c.requires)
 
-pub solve-requires : goal.solve-requires
-solve-requires c = one_asked _ _ _ _ _ _ _ _ c.requires _ nothing_stands
+pub solve_over-requires : goal.solve_over-requires
+solve_over-requires c = one_asked _ _ _ _ _ _ _ _ c.requires _ nothing_stands
 
 pub returns : goal.returns
-returns c = one_formed _ _ _ _ _ _ _ _ c.requires _ nothing_stands _ _ _ _ c.solve.ensures
+returns c = one_formed _ _ _ _ _ _ _ _ c.requires _ nothing_stands _ _ _ _ c.solve_over.ensures
