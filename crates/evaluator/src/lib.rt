@@ -184,7 +184,8 @@ fn survey(
     let mut count = 0;
     let mut at = 0;
     for j in 0..all {
-        if holds(sheet, r, s, base, env, run, &mut cursor, j)? {
+        let told = holds(sheet, r, s, base, env, run, &mut cursor, j);
+        if told? {
             if count == due {
                 at = j;
             }

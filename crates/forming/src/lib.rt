@@ -303,7 +303,7 @@ fn down(
     requires { DownHeld sheet.now s.now agenda.now head top found.old frames.old depth hit rows.old order.old n }
     ensures { WentDown sheet.now s.now agenda.now head top found.old frames.old depth hit rows.old order.old n found.new frames.new rows.new order.new result }
 {
-    let Some(left) = taking::take_leaves_over(sheet, s, agenda, head, found, asks) else {
+    let Some(left) = taking::take_leaves(sheet, s, agenda, head, found, asks) else {
         return Ok(Step { n, depth, hit });
     };
     let at = left.wait;

@@ -1,12 +1,9 @@
 // Leaves taken off an agenda: names, any and literals are matched before a pattern with parts that stands before them.
-ghost use Rattle.std.specs.Prelude.{◌<◌};
-ghost use Rattle.tables.specs.Reading.{Indexed};
 ghost use Rattle.forming.specs.Pending.{TakeHeld, Taken};
 
 use crate::{Agenda, needs};
 use matching::leaves;
 use parts::words::Env;
-use tables::Index;
 use tables::shape::is_composed;
 use tables::sheet::Sheet;
 
@@ -19,7 +16,7 @@ pub struct Left {
 
 // Takes leaves off an agenda, up to its end or to the second pattern with parts. None where one of them does not agree, or a pattern with parts lacks an
 // item, where this is asked.
-pub fn take_leaves_over(
+pub fn take_leaves(
     sheet: &Sheet,
     s: &[u8],
     agenda: &Agenda,
@@ -51,24 +48,4 @@ pub fn take_leaves_over(
         head = next;
     }
     Some(Left { wait, head })
-}
-
-// Takes leaves off an agenda in the same way. Of an agenda without entries no record is read, whatever the table.
-pub fn take_leaves(
-    table: &[u8],
-    index: &Index,
-    s: &[u8],
-    agenda: &Agenda,
-    head: usize,
-    found: &mut [u32; Env::NAMES],
-    asks: bool,
-) -> Option<Left>
-    requires { TakeHeld table.now s.now agenda.now head found.old × (0 < head → Indexed table.now index.now) }
-    ensures { Taken table.now s.now agenda.now head found.old found.new result }
-{
-    if head == 0 {
-        return Some(Left { wait: 0, head });
-    }
-    let sheet = Sheet::new(table, index);
-    take_leaves_over(&sheet, s, agenda, head, found, asks)
 }

@@ -31,6 +31,8 @@ use borrow.Author.Tests.{eq-eqb, ne_eqb}
 use Rattle.evaluator.proofs.Coming.{comes_sound}
 use Rattle.evaluator.proofs.Quieting.{quiet}
 use Rattle.evaluator.proofs.Surveying.{counts_end, counts_stands, counts_off, counts_more, survey_off, survey_start, survey_whole}
+use Rattle.lists.specs.Lent.{lent}
+use Rattle.evaluator.specs.Contract.{env_of}
 use Rattle.evaluator.proofs.+evaluation.Goals as goal
 use Rattle.evaluator.proofs.+evaluation.Goals.{survey-then-branch, survey-then-count-due, survey-else-count-due, survey-else-branch, binder-in_default-via-then-k-lt16, binder-in_default-via-else-k-lt16+else-k-lt21, eval-in_default-via-then-k-lt1, eval-in_default-via-else-k-lt1+else-k-lt9, eval-in-10-1, eval-in_default+else-k-lt1+then-k-lt9}
 use Rattle.std.specs.Prelude.{Some}
@@ -681,22 +683,22 @@ survey-wanted-due-requires t c = comes_sound (c.in_ok-cursor.ensures.right c.req
 pub survey-loop-j-init : goal.survey-loop-j-init
 survey-loop-j-init t c = survey_start c.args.k c.requires.0 c.requires.2.0 c.requires.2.1 c.requires.1 (quiet c.requires.0.legal c.args.r c.requires.0.within (omega (arith, c.requires.1, c.requires.2.0)) (omega (arith, c.requires.1, c.requires.2.1))) c.in_ok-cursor.ensures refl refl c.wanted-due.result
 
-pub survey-holds-requires : goal.survey-holds-requires
-survey-holds-requires t c = (omega (arith, c.decreases), counts_stands c.loop-j.invariant c.loop-j-test.true)
+pub survey-holds-told-requires : goal.survey-holds-told-requires
+survey-holds-told-requires t c = (omega (arith, c.decreases), counts_stands c.loop-j.invariant c.loop-j-test.true)
 
-pub survey-shape_of-s-in_err-holds : goal.survey-shape_of-s-in_err-holds
-survey-shape_of-s-in_err-holds t c = (c.in_err-holds.ensures.turned c.loop-j.invariant.bindings c.loop-j.invariant.standing).low.long ∙ c.loop-j.invariant.kept.long ∙ c.in_ok-cursor.ensures.kept.long
+pub survey-shape_of-s-in_err-told : goal.survey-shape_of-s-in_err-told
+survey-shape_of-s-in_err-told t c = (c.holds-told.ensures.turned c.loop-j.invariant.bindings c.loop-j.invariant.standing).low.long ∙ c.loop-j.invariant.kept.long ∙ c.in_ok-cursor.ensures.kept.long
 
-pub survey-returns-in_err-holds : goal.survey-returns-in_err-holds
-survey-returns-in_err-holds t c = let p = err_from_is_err_and c.from_residual-in_err-holds.result c.from_residual-in_err-holds.ensures.1 in rw (p.1, p.2) (survey_whole c.args.k c.requires.0 c.requires.2.0 c.requires.2.1 c.requires.1 (quiet c.requires.0.legal c.args.r c.requires.0.within (omega (arith, c.requires.1, c.requires.2.0)) (omega (arith, c.requires.1, c.requires.2.1))) c.in_ok-cursor.ensures refl c.loop-j.invariant.only (counts_off c.loop-j.invariant c.loop-j-test.true c.in_err-holds.ensures no_value))
+pub survey-returns-in_err-told : goal.survey-returns-in_err-told
+survey-returns-in_err-told t c = let p = err_from_is_err_and c.from_residual-in_err-told.result c.from_residual-in_err-told.ensures.1 in rw (p.1, p.2) (survey_whole c.args.k c.requires.0 c.requires.2.0 c.requires.2.1 c.requires.1 (quiet c.requires.0.legal c.args.r c.requires.0.within (omega (arith, c.requires.1, c.requires.2.0)) (omega (arith, c.requires.1, c.requires.2.1))) c.in_ok-cursor.ensures refl c.loop-j.invariant.only (counts_off c.loop-j.invariant c.loop-j-test.true (rw c.in_err-told.was at c.holds-told.ensures) no_value))
 
 pub survey-loop-j-preserved : goal.survey-loop-j-preserved
 survey-loop-j-preserved t c = elim c.if-branch.branch [
   | survey-then-branch w ↦ elim w.if-count-due.branch [
-    | survey-then-count-due x ↦ counts_more c.loop-j.invariant c.loop-j-test.true c.in_ok-holds.ensures refl refl refl (rw (w.if-branch.true, eq-eqb _ _ x.if-count-due.true) (w.at-is ∙ x.at-is)) (rw (w.if-branch.true) w.count-is)
-    | survey-else-count-due x ↦ counts_more c.loop-j.invariant c.loop-j-test.true c.in_ok-holds.ensures refl refl refl (rw (w.if-branch.true, ne_eqb _ _ x.if-count-due.false) (w.at-is ∙ x.at-is)) (rw (w.if-branch.true) w.count-is)
+    | survey-then-count-due x ↦ counts_more c.loop-j.invariant c.loop-j-test.true (rw c.in_ok-told.was at c.holds-told.ensures) refl refl refl (rw (w.if-branch.true, eq-eqb _ _ x.if-count-due.true) (w.at-is ∙ x.at-is)) (rw (w.if-branch.true) w.count-is)
+    | survey-else-count-due x ↦ counts_more c.loop-j.invariant c.loop-j-test.true (rw c.in_ok-told.was at c.holds-told.ensures) refl refl refl (rw (w.if-branch.true, ne_eqb _ _ x.if-count-due.false) (w.at-is ∙ x.at-is)) (rw (w.if-branch.true) w.count-is)
   ]
-  | survey-else-branch w ↦ counts_more c.loop-j.invariant c.loop-j-test.true c.in_ok-holds.ensures refl refl refl (rw (w.if-branch.false) w.at-is) (rw (w.if-branch.false) w.count-is)
+  | survey-else-branch w ↦ counts_more c.loop-j.invariant c.loop-j-test.true (rw c.in_ok-told.was at c.holds-told.ensures) refl refl refl (rw (w.if-branch.false) w.at-is) (rw (w.if-branch.false) w.count-is)
 ]
 
 pub survey-shape_of-s : goal.survey-shape_of-s

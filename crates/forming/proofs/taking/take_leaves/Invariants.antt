@@ -1,5 +1,5 @@
 use Rattle.forming.proofs.Leaving.{TakeSoFar}
-use Rattle.forming.proofs.taking.take_leaves_over.Given as goal
+use Rattle.forming.proofs.taking.take_leaves.Given as goal
 
 abbrev pub invariant-loop-head : goal.invariant-loop-head
 invariant-loop-head l = TakeSoFar l.sheet l.s l.agenda l.head-2 l.initial.found l.head l.wait l.found
