@@ -43,6 +43,11 @@ valueless (refuses n p k) = refuses n p k
 abbrev pub packed_refused : Refused → ℕ
 packed_refused e = pack (number_of e.refusal) e.place e.count
 
+-- The number of an outcome: that of success where there is a value.
+abbrev pub packed_of : Ended → ℕ
+packed_of (Ok u) = pack 0 0 0
+packed_of (Err e) = packed_refused e
+
 -- The list is complete: its run ended in 20 to 31.
 abbrev pub is_of_sheet : Refusal → Bool
 is_of_sheet x = ltb (number_of x) 32

@@ -9,7 +9,7 @@ ghost use Rattle.choices.specs.Paths.{first_list, next_list};
 ghost use Rattle.lists.specs.Lent.{lent};
 ghost use Rattle.meaning.specs.Answer.{weight, pack};
 ghost use Rattle.meaning.specs.Service.{tree, onward};
-ghost use Rattle.walks.specs.Steps.{Walkable, is_of_sheet, packed_refused, settled, Ran, Answers, AtEnd, Steppable, Steps};
+ghost use Rattle.walks.specs.Steps.{Walkable, is_of_sheet, packed_refused, packed_of, settled, Ran, Answers, AtEnd, Steppable, Steps};
 
 use choices::list::Walk;
 use evaluator::{Refused, run_sheet};
@@ -40,6 +40,16 @@ pub fn pack_refused(e: Refused) -> u64
         usize::from(e.place),
         usize::from(e.count),
     )
+}
+
+// An outcome as one number: that of success where there is a value.
+pub fn pack_outcome(o: Result<(), Refused>) -> u64
+    ensures { result ≡ packed_of o }
+{
+    match o {
+        Ok(()) => pack(0, 0, 0),
+        Err(e) => pack_refused(e),
+    }
 }
 
 // Whether a run that is so refused followed a complete list: the refusal is none of the list's own.
@@ -131,10 +141,11 @@ pub fn next_walk(walk: Walk, sheet: &Sheet, count: usize, s: &mut [u8]) -> Stepp
 {
     let mut run = start_walk(walk, false);
     let o = run_sheet(sheet, count, s, &mut run);
-    if let Err(e) = settle(o, &run, count - 1) {
+    let ran = settle(o, &run, count - 1);
+    if let Err(e) = ran {
         if !is_of_sheet(e.refusal) {
             return Stepped {
-                answer: pack_refused(e),
+                answer: pack_outcome(ran),
                 walk,
             };
         }

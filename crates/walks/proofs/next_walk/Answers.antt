@@ -13,22 +13,22 @@ pub overflow_sub-count : goal.overflow_sub-count
 overflow_sub-count c =
     omega (arith, count_some c.args.sheet.now c.args.count c.args.s.now c.requires.walkable)
 
-pub settle-requires : goal.settle-requires
-settle-requires c =
+pub settle-ran-requires : goal.settle-ran-requires
+settle-ran-requires c =
     (comes_sound c.run_sheet-o.ensures, count_few c.args.sheet.now c.args.count c.args.s.now c.requires.walkable)
 
 pub returns-then-not-is_of_sheet : goal.returns-then-not-is_of_sheet
 returns-then-not-is_of_sheet c =
-    steps_other c.args.sheet.now c.run_sheet-o.new.s c.args.walk c.settle.result (told_run c.args.sheet.now c.args.count c.args.s.now c.requires.walkable _ _ _ _ _ c.start_walk-run.ensures c.run_sheet-o.ensures _ c.settle.ensures) c.requires.runnable c.in-Err.e c.in-Err.is (sym c.is_of_sheet.ensures ∙ c.if-not-is_of_sheet.true) c.pack_refused.result c.pack_refused.ensures
+    steps_other c.args.sheet.now c.run_sheet-o.new.s c.args.walk c.settle-ran.result (told_run c.args.sheet.now c.args.count c.args.s.now c.requires.walkable _ _ _ _ _ c.start_walk-run.ensures c.run_sheet-o.ensures _ c.settle-ran.ensures) c.requires.runnable c.in-Err.e c.in-Err.is (sym c.is_of_sheet.ensures ∙ c.if-not-is_of_sheet.true) c.pack_outcome.result c.pack_outcome.ensures
 
 pub next_list-requires : goal.next_list-requires
 next_list-requires c =
-    let whole : is_whole c.settle.result ≡ true =
-    elim c.match-settle.branch [
+    let whole : is_whole c.settle-ran.result ≡ true =
+    elim c.match-ran.branch [
       | in-Err+else-not-is_of_sheet w ↦ ap is_whole w.in-Err.is ∙ sym w.is_of_sheet.ensures ∙ w.if-not-is_of_sheet.false
       | in_default w ↦ ap is_whole w.in_default.is
     ] in
-    let full = complete_ran c.args.sheet.now (list_held c.args.walk) c.run_sheet-o.new.s c.settle.result (told_run c.args.sheet.now c.args.count c.args.s.now c.requires.walkable _ _ _ _ _ c.start_walk-run.ensures c.run_sheet-o.ensures _ c.settle.ensures) whole in
+    let full = complete_ran c.args.sheet.now (list_held c.args.walk) c.run_sheet-o.new.s c.settle-ran.result (told_run c.args.sheet.now c.args.count c.args.s.now c.requires.walkable _ _ _ _ _ c.start_walk-run.ensures c.run_sheet-o.ensures _ c.settle-ran.ensures) whole in
     let came = arrived c.args.sheet.now (lent c.start_walk-run.result) c.run_sheet-o.result (lent c.run_sheet-o.new.run) c.run_sheet-o.new.s c.run_sheet-o.ensures in
     let e = at-end c.args.sheet.now (lent c.start_walk-run.result) c.run_sheet-o.result (lent c.run_sheet-o.new.run) c.run_sheet-o.new.s came c.args.walk c.requires.runnable c.start_walk-run.ensures full in (
       record { ok = c.requires.walkable.ok; room = c.run_sheet-o.auto.s ∙ c.requires.walkable.room },
@@ -37,9 +37,9 @@ next_list-requires c =
 
 pub returns : goal.returns
 returns c =
-    let whole : is_whole c.settle.result ≡ true =
-    elim c.match-settle.branch [
+    let whole : is_whole c.settle-ran.result ≡ true =
+    elim c.match-ran.branch [
       | in-Err+else-not-is_of_sheet w ↦ ap is_whole w.in-Err.is ∙ sym w.is_of_sheet.ensures ∙ w.if-not-is_of_sheet.false
       | in_default w ↦ ap is_whole w.in_default.is
     ] in
-    steps_on c.args.sheet.now c.run_sheet-o.new.s c.args.walk c.settle.result (told_run c.args.sheet.now c.args.count c.args.s.now c.requires.walkable _ _ _ _ _ c.start_walk-run.ensures c.run_sheet-o.ensures _ c.settle.ensures) whole c.next_list.result c.next_list.ensures
+    steps_on c.args.sheet.now c.run_sheet-o.new.s c.args.walk c.settle-ran.result (told_run c.args.sheet.now c.args.count c.args.s.now c.requires.walkable _ _ _ _ _ c.start_walk-run.ensures c.run_sheet-o.ensures _ c.settle-ran.ensures) whole c.next_list.result c.next_list.ensures
