@@ -63,23 +63,28 @@ module _ (scratch buffer : ℕ) (table : List ℕ) where
       go false true e f g = impossible cc
       go false false e f g = record { enough = ltb-false scratch scratch_bytes e; room = ltb-false buffer largest f; ok = g; few = subst SmallCheck g (small_check table) }
 
-  -- A refusal's place can be packed; its rule tells whether what is lent is long enough.
-  pub record Refuses (x : Fault) : Type 0 where
-    pub place : x.place < 600
-    pub long : is_early (number_of x.rule) ≡ false → (scratch_bytes ≤ scratch) × (largest ≤ buffer)
+  -- A refusal's number and place can be packed; its number tells whether what is lent is long enough.
+  pub record Refuses (n p : ℕ) : Type 0 where
+    pub number : n ≤ 9
+    pub place : p < 600
+    pub long : is_early n ≡ false → (scratch_bytes ≤ scratch) × (largest ≤ buffer)
 
-  pub refused : (x : Fault) → admits scratch buffer table ≡ Err x → Refuses x
-  refused x = go (ltb scratch scratch_bytes) (ltb buffer largest) refl refl
+  refuses_rule : (x : Fault) → admits scratch buffer table ≡ Err x → Refuses (number_of x.rule) x.place
+  refuses_rule x = go (ltb scratch scratch_bytes) (ltb buffer largest) refl refl
     where
-      early : (r : Rule) → is_early (number_of r) ≡ true → ◌≡◌ {A = Checked} (faulty r 0) (Err x) → Refuses x
-      early r h g =
+      early : (r : Rule) → number_of r ≤ 9 → is_early (number_of r) ≡ true → ◌≡◌ {A = Checked} (faulty r 0) (Err x) → Refuses (number_of x.rule) x.place
+      early r u h g =
           let same : record { rule = r; place = 0 } ≡ x = cc in
+          let told : number_of r ≡ number_of x.rule = ap (λ (y : Fault). number_of y.rule) same in
           let none : 0 ≡ x.place = ap (λ (y : Fault). y.place) same in
-          record { place = omega (arith, none); long = λ l. true_false (sym h ∙ ap (λ (y : Fault). is_early (number_of y.rule)) same ∙ l) }
+          record { number = omega (arith, u, told); place = omega (arith, none); long = λ l. true_false (sym h ∙ ap is_early told ∙ l) }
 
-      go : (a b : Bool) → ltb scratch scratch_bytes ≡ a → ltb buffer largest ≡ b → cond a (faulty ScratchTooShort 0) (cond b (faulty ResultTooShort 0) (check table)) ≡ Err x → Refuses x
-      go true b e f g = early ScratchTooShort refl g
-      go false true e f g = early ResultTooShort refl g
+      go : (a b : Bool) → ltb scratch scratch_bytes ≡ a → ltb buffer largest ≡ b → cond a (faulty ScratchTooShort 0) (cond b (faulty ResultTooShort 0) (check table)) ≡ Err x → Refuses (number_of x.rule) x.place
+      go true b e f g = early ScratchTooShort (omega arith) refl g
+      go false true e f g = early ResultTooShort (omega arith) refl g
       go false false e f g =
           let small = subst SmallCheck g (small_check table) in
-          record { place = small.2; long = λ l. (ltb-false scratch scratch_bytes e, ltb-false buffer largest f) }
+          record { number = small.1; place = small.2; long = λ l. (ltb-false scratch scratch_bytes e, ltb-false buffer largest f) }
+
+  pub refused : (x : Fault) → admits scratch buffer table ≡ Err x → (n : ℕ) → n ≡ number_of x.rule → Refuses n x.place
+  refused x e n q = subst (λ (m : ℕ). Refuses m x.place) (sym q) (refuses_rule x e)

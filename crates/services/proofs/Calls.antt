@@ -71,13 +71,16 @@ accepts table s buffer n e sheet q =
 
 -- ---- refused by rules 1 to 9
 
-module _ (table s : List ℕ) (x : Fault) (a : ℕ) (q : a ≡ pack (number_of x.rule) x.place 0) (s' : List ℕ) (d : s' ≡ cond (is_early (number_of x.rule)) s (zeroed scratch_bytes s)) where
+module _ (table s : List ℕ) (x : Fault) (n : ℕ) (m : n ≡ number_of x.rule) (a : ℕ) (q : a ≡ pack n x.place 0) (s' : List ℕ) (d : s' ≡ cond (is_early n) s (zeroed scratch_bytes s)) where
+  by_number : {A : Type 0} {due : Final A} → due ≡ refuses (number_of x.rule) x.place 0 → due ≡ refuses n x.place 0
+  by_number e = e ∙ (λ i. refuses (sym m i) x.place 0)
+
   module _ (no : admits (length s) largest table ≡ Err x) where
     pub check_refused : check_call table s ≡ record { answer = a; scratch = s' }
-    check_refused = ap (λ y. after_check y s) (refused_due (length s) largest table x no (λ k. result k)) ∙ (λ i. record { answer = sym q i; scratch = sym d i })
+    check_refused = ap (λ y. after_check y s) (by_number (refused_due (length s) largest table x no (λ k. result k))) ∙ (λ i. record { answer = sym q i; scratch = sym d i })
 
     walk_refused : (w : Walk) (due : Final (List ℕ)) → due ≡ refuses (number_of x.rule) x.place 0 → after_walk due s w ≡ record { answer = a; scratch = s'; walk = w }
-    walk_refused w due e = ap (λ y. after_walk y s w) e ∙ (λ i. record { answer = sym q i; scratch = sym d i; walk = w })
+    walk_refused w due e = ap (λ y. after_walk y s w) (by_number e) ∙ (λ i. record { answer = sym q i; scratch = sym d i; walk = w })
 
     pub first_refused : (w : Walk) → first_call table w s ≡ record { answer = a; scratch = s'; walk = w }
     first_refused w = walk_refused w _ (refused_due (length s) largest table x no _)
@@ -85,9 +88,9 @@ module _ (table s : List ℕ) (x : Fault) (a : ℕ) (q : a ≡ pack (number_of x
     pub step_refused : (w : Walk) → step_call table w s ≡ record { answer = a; scratch = s'; walk = w }
     step_refused w = walk_refused w _ (refused_due (length s) largest table x no _)
 
-  pub evaluate_refused : (list buffer : List ℕ) → admits (length s) (length buffer) table ≡ Err x → (b' : List ℕ) → b' ≡ cond (is_early (number_of x.rule)) buffer (zeroed largest buffer) → evaluate_call table list s buffer ≡ record { answer = a; scratch = s'; buffer = b' }
+  pub evaluate_refused : (list buffer : List ℕ) → admits (length s) (length buffer) table ≡ Err x → (b' : List ℕ) → b' ≡ cond (is_early n) buffer (zeroed largest buffer) → evaluate_call table list s buffer ≡ record { answer = a; scratch = s'; buffer = b' }
   evaluate_refused list buffer off b' f =
-      ap (λ y. after_evaluate y s buffer) (refused_due (length s) (length buffer) table x off _) ∙ (λ i. record { answer = sym q i; scratch = sym d i; buffer = sym f i })
+      ap (λ y. after_evaluate y s buffer) (by_number (refused_due (length s) (length buffer) table x off _)) ∙ (λ i. record { answer = sym q i; scratch = sym d i; buffer = sym f i })
 
 -- ---- check
 

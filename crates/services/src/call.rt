@@ -1,7 +1,6 @@
 // What every service does first: rules 1 to 9, and the answer where one of them is broken.
 ghost use Rattle.std.specs.Prelude.{◌≡◌, false, cond, ◌≤◌, ◌<◌, length};
 ghost use Rattle.tables.specs.Check.{most_records};
-ghost use Rattle.tables.specs.Faults.{number_of};
 ghost use Rattle.meaning.specs.Answer.{weight, pack as packed};
 ghost use Rattle.meaning.specs.Service.{scratch_bytes};
 ghost use Rattle.meaning.specs.Lent.{zeroed, is_early};
@@ -40,20 +39,20 @@ pub fn admitted(
     check(table, index)
 }
 
-// Rules 1 and 2, which change nothing.
-pub fn is_early(rule: Rule) -> bool
-    ensures { result ≡ is_early (number_of rule) }
+// 1 and 2, which change nothing.
+pub fn is_early(number: usize) -> bool
+    ensures { result ≡ is_early number }
 {
-    matches!(rule, Rule::ScratchTooShort | Rule::ResultTooShort)
+    number == Rule::ScratchTooShort.number() || number == Rule::ResultTooShort.number()
 }
 
 // The answer to a refusal by rules 1 to 9. The scratch is cleared, unless it is 1 or 2.
-pub fn refuse(fault: Fault, scratch: &mut [u8]) -> u64
-    requires { (fault.place < weight) × (is_early (number_of fault.rule) ≡ false → scratch_bytes ≤ length scratch.old) }
-    ensures { (result ≡ packed (number_of fault.rule) fault.place 0) × (scratch.new ≡ cond (is_early (number_of fault.rule)) scratch.old (zeroed scratch_bytes scratch.old)) }
+pub fn refuse(number: usize, place: usize, scratch: &mut [u8]) -> u64
+    requires { (number < weight) × (place < weight) × (is_early number ≡ false → scratch_bytes ≤ length scratch.old) }
+    ensures { (result ≡ packed number place 0) × (scratch.new ≡ cond (is_early number) scratch.old (zeroed scratch_bytes scratch.old)) }
 {
-    if !is_early(fault.rule) {
+    if !is_early(number) {
         clear(scratch, SCRATCH);
     }
-    pack(fault.rule.number(), fault.place, 0)
+    pack(number, place, 0)
 }

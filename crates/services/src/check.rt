@@ -15,7 +15,7 @@ pub fn dengwizo_check(table: &[u8], scratch: &mut [u8]) -> u64
 {
     let mut index = [0u32; MOST_RECORDS];
     match admitted(table, scratch.len(), Value::LIMIT, &mut index) {
-        Err(fault) => refuse(fault, scratch),
+        Err(fault) => refuse(fault.rule.number(), fault.place, scratch),
         Ok(count) => {
             clear(scratch, SCRATCH);
             pack(0, 0, count)

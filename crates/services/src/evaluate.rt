@@ -1,6 +1,5 @@
 // Evaluating a table under a choice list.
 ghost use Rattle.std.specs.Prelude.{◌≡◌, false, cond, ℕ, ◌≤◌, length};
-ghost use Rattle.tables.specs.Faults.{number_of};
 ghost use Rattle.values.specs.Value.{value_limit as largest};
 ghost use Rattle.meaning.specs.Service.{evaluates};
 ghost use Rattle.meaning.specs.Lent.{zeroed, is_early, evaluate_call};
@@ -47,11 +46,11 @@ fn handed(outcome: Result<Value, u64>, res: &mut [u8]) -> u64
 }
 
 // The result buffer after a refusal by rules 1 to 9: zeros, unless it is 1 or 2.
-fn hand_none(rule: Rule, res: &mut [u8])
-    requires { is_early (number_of rule) ≡ false → largest ≤ length res.old }
-    ensures { res.new ≡ cond (is_early (number_of rule)) res.old (zeroed largest res.old) }
+fn hand_none(number: usize, res: &mut [u8])
+    requires { is_early number ≡ false → largest ≤ length res.old }
+    ensures { res.new ≡ cond (is_early number) res.old (zeroed largest res.old) }
 {
-    if !is_early(rule) {
+    if !is_early(number) {
         clear(res, Value::LIMIT);
     }
 }
@@ -63,8 +62,9 @@ pub fn dengwizo_evaluate(table: &[u8], list: &[u8], scratch: &mut [u8], res: &mu
     let mut index = [0u32; MOST_RECORDS];
     match admitted(table, scratch.len(), res.len(), &mut index) {
         Err(fault) => {
-            hand_none(fault.rule, res);
-            refuse(fault, scratch)
+            let number = fault.rule.number();
+            hand_none(number, res);
+            refuse(number, fault.place, scratch)
         }
         Ok(count) => {
             let sheet = Sheet::new(table, &index);

@@ -43,7 +43,7 @@ pub fn dengwizo_first(
 {
     let mut index = [0u32; MOST_RECORDS];
     match admitted(table, scratch.len(), Value::LIMIT, &mut index) {
-        Err(fault) => refuse(fault, scratch),
+        Err(fault) => refuse(fault.rule.number(), fault.place, scratch),
         Ok(count) => {
             let sheet = Sheet::new(table, &index);
             let answer = first_accepted(&sheet, count, entries, length, scratch);

@@ -24,7 +24,8 @@ fn step_accepted(
     requires { Accepts sheet.now count scratch.old }
     ensures { Left (steps (length scratch.old) sheet.now (walk_of entries.old len.old)) (walk_of entries.old len.old) scratch.old (record { answer = result; scratch = scratch.new; walk = walk_of entries.new len.new }) }
 {
-    if entries.len() < Walk::LIMIT || Walk::LIMIT < *len {
+    let long = Walk::LIMIT < *len;
+    if entries.len() < Walk::LIMIT || long {
         return pack(Rule::WrongListSize.number(), 0, 0);
     }
     let mut walk = load(entries, *len);
@@ -44,7 +45,7 @@ pub fn dengwizo_step(
 {
     let mut index = [0u32; MOST_RECORDS];
     match admitted(table, scratch.len(), Value::LIMIT, &mut index) {
-        Err(fault) => refuse(fault, scratch),
+        Err(fault) => refuse(fault.rule.number(), fault.place, scratch),
         Ok(count) => {
             let sheet = Sheet::new(table, &index);
             let answer = step_accepted(&sheet, count, entries, length, scratch);

@@ -8,7 +8,7 @@ use Rattle.services.proofs.check.dengwizo_check.Goals as goal
 
 pub refuse-requires : goal.refuse-requires
 refuse-requires c =
-    let f = refused (length c.args.scratch.now) 512 c.args.table.now _ (sym c.admitted.ensures.answer ∙ c.in-Err.is) in (omega (arith, f.place), λ l. (f.long l).0)
+    let f = refused (length c.args.scratch.now) 512 c.args.table.now _ (sym c.admitted.ensures.answer ∙ c.in-Err.is) _ c.number.ensures in (omega (arith, f.number), omega (arith, f.place), λ l. (f.long l).0)
 
 pub clear-requires : goal.clear-requires
 clear-requires c =
@@ -20,7 +20,7 @@ pack-requires c =
 
 pub returns-in-Err : goal.returns-in-Err
 returns-in-Err c =
-    check_refused c.args.table.now c.args.scratch.now _ c.refuse.result c.refuse.ensures.0 _ c.refuse.ensures.1 (sym c.admitted.ensures.answer ∙ c.in-Err.is)
+    check_refused c.args.table.now c.args.scratch.now _ _ c.number.ensures c.refuse.result c.refuse.ensures.0 _ c.refuse.ensures.1 (sym c.admitted.ensures.answer ∙ c.in-Err.is)
 
 pub returns-in-Ok : goal.returns-in-Ok
 returns-in-Ok c =

@@ -13,11 +13,11 @@ use Rattle.services.proofs.evaluate.dengwizo_evaluate.Goals as goal
 
 pub hand_none-requires : goal.hand_none-requires
 hand_none-requires c =
-    λ l. ((refused (length c.args.scratch.now) (length c.args.res.now) c.args.table.now _ (sym c.admitted.ensures.answer ∙ c.in-Err.is)).long l).1
+    λ l. ((refused (length c.args.scratch.now) (length c.args.res.now) c.args.table.now _ (sym c.admitted.ensures.answer ∙ c.in-Err.is) _ c.number-number.ensures).long l).1
 
 pub refuse-requires : goal.refuse-requires
 refuse-requires c =
-    let f = refused (length c.args.scratch.now) (length c.args.res.now) c.args.table.now _ (sym c.admitted.ensures.answer ∙ c.in-Err.is) in (omega (arith, f.place), λ l. (f.long l).0)
+    let f = refused (length c.args.scratch.now) (length c.args.res.now) c.args.table.now _ (sym c.admitted.ensures.answer ∙ c.in-Err.is) _ c.number-number.ensures in (omega (arith, f.number), omega (arith, f.place), λ l. (f.long l).0)
 
 pub new-sheet-requires : goal.new-sheet-requires
 new-sheet-requires c = c.admitted.ensures.indexed _ c.in-Ok.is
@@ -36,7 +36,7 @@ clear-requires c =
 
 pub returns-in-Err : goal.returns-in-Err
 returns-in-Err c =
-    evaluate_refused c.args.table.now c.args.scratch.now _ c.refuse.result c.refuse.ensures.0 _ c.refuse.ensures.1 c.args.list.now c.args.res.now (sym c.admitted.ensures.answer ∙ c.in-Err.is) _ c.hand_none.ensures
+    evaluate_refused c.args.table.now c.args.scratch.now _ _ c.number-number.ensures c.refuse.result c.refuse.ensures.0 _ c.refuse.ensures.1 c.args.list.now c.args.res.now (sym c.admitted.ensures.answer ∙ c.in-Err.is) _ c.hand_none.ensures
 
 pub returns-in-Ok : goal.returns-in-Ok
 returns-in-Ok c =

@@ -9,7 +9,7 @@ use Rattle.services.proofs.first.dengwizo_first.Goals as goal
 
 pub refuse-requires : goal.refuse-requires
 refuse-requires c =
-    let f = refused (length c.args.scratch.now) 512 c.args.table.now _ (sym c.admitted.ensures.answer ∙ c.in-Err.is) in (omega (arith, f.place), λ l. (f.long l).0)
+    let f = refused (length c.args.scratch.now) 512 c.args.table.now _ (sym c.admitted.ensures.answer ∙ c.in-Err.is) _ c.number.ensures in (omega (arith, f.number), omega (arith, f.place), λ l. (f.long l).0)
 
 pub first_accepted-answer-requires : goal.first_accepted-answer-requires
 first_accepted-answer-requires c =
@@ -24,7 +24,7 @@ clear-requires c =
 
 pub returns-in-Err : goal.returns-in-Err
 returns-in-Err c =
-    first_refused c.args.table.now c.args.scratch.now _ c.refuse.result c.refuse.ensures.0 _ c.refuse.ensures.1 (sym c.admitted.ensures.answer ∙ c.in-Err.is) (walk_of c.args.entries.now c.args.length.now)
+    first_refused c.args.table.now c.args.scratch.now _ _ c.number.ensures c.refuse.result c.refuse.ensures.0 _ c.refuse.ensures.1 (sym c.admitted.ensures.answer ∙ c.in-Err.is) (walk_of c.args.entries.now c.args.length.now)
 
 pub returns-in-Ok : goal.returns-in-Ok
 returns-in-Ok c =
