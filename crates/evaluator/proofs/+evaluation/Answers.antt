@@ -34,7 +34,7 @@ use Rattle.evaluator.proofs.Surveying.{counts_end, counts_stands, counts_off, co
 use Rattle.lists.specs.Lent.{lent}
 use Rattle.evaluator.specs.Contract.{env_of}
 use Rattle.evaluator.proofs.+evaluation.Goals as goal
-use Rattle.evaluator.proofs.+evaluation.Goals.{survey-then-branch, survey-then-count-due, survey-else-count-due, survey-else-branch, binder-in_default-via-then-k-lt16, binder-in_default-via-else-k-lt16+else-k-lt21, eval-in_default-via-then-k-lt1, eval-in_default-via-else-k-lt1+else-k-lt9, eval-in-10-1, eval-in_default+else-k-lt1+then-k-lt9}
+use Rattle.evaluator.proofs.+evaluation.Goals.{quantify-else-all-test, quantify-then-all-test+in_ok-holds+then-branch-want, survey-then-branch, survey-then-count-due, survey-else-count-due, survey-else-branch, binder-in_default-via-then-k-lt16, binder-in_default-via-else-k-lt16+else-k-lt21, eval-in_default-via-then-k-lt1, eval-in_default-via-else-k-lt1+else-k-lt9, eval-in-10-1, eval-in_default+else-k-lt1+then-k-lt9}
 use Rattle.std.specs.Prelude.{Some}
 use Rattle.evaluator.proofs.Placing.{judged_as, judged_some, judged_none}
 use Rattle.evaluator.proofs.Deciding.{beq_same, beq_not}
@@ -580,25 +580,25 @@ quantify-all-preserved t c = scans_more c.all.invariant c.all-test.true c.in_ok-
 
 pub quantify-put_boolean-requires : goal.quantify-put_boolean-requires
 quantify-put_boolean-requires t c =
-    let joined : Settled c.args.sheet.now c.args.r c.begin-cursor.new.s c.args.base (env_of c.args.env.now) c.args.want (lent c.begin-cursor.new.run) c.all-test.s (lent c.all-test.run) c.all-test.found = elim c.all-test.branch [
+    let joined : Settled c.args.sheet.now c.args.r c.begin.new.s c.args.base (env_of c.args.env.now) c.args.want (lent c.begin.new.run) c.all-test.s (lent c.all-test.run) c.all-test.found = elim c.all-test.branch [
       | quantify-else-all-test w ↦ settled_as w.s-is (ap lent w.run-is) w.found-is (scans_end c.all.invariant w.all-test.false)
-      | quantify-then-all-test+then-branch-want w ↦ settled_as w.s-is (ap lent w.run-is) w.found-is (scans_hit c.all.invariant w.all-test.true w.in_ok-holds.ensures refl (beq_same _ _ w.if-branch-want.true))
+      | quantify-then-all-test+in_ok-holds+then-branch-want w ↦ settled_as w.s-is (ap lent w.run-is) w.found-is (scans_hit c.all.invariant w.all-test.true w.in_ok-holds.ensures refl (beq_same _ _ w.if-branch-want.true))
     ] in
     omega (arith, room_here c.requires.0, joined.kept.long, c.in_ok-cursor.ensures.kept.long)
 
 pub quantify-shape_of-s : goal.quantify-shape_of-s
 quantify-shape_of-s t c =
-    let joined : Settled c.args.sheet.now c.args.r c.begin-cursor.new.s c.args.base (env_of c.args.env.now) c.args.want (lent c.begin-cursor.new.run) c.all-test.s (lent c.all-test.run) c.all-test.found = elim c.all-test.branch [
+    let joined : Settled c.args.sheet.now c.args.r c.begin.new.s c.args.base (env_of c.args.env.now) c.args.want (lent c.begin.new.run) c.all-test.s (lent c.all-test.run) c.all-test.found = elim c.all-test.branch [
       | quantify-else-all-test w ↦ settled_as w.s-is (ap lent w.run-is) w.found-is (scans_end c.all.invariant w.all-test.false)
-      | quantify-then-all-test+then-branch-want w ↦ settled_as w.s-is (ap lent w.run-is) w.found-is (scans_hit c.all.invariant w.all-test.true w.in_ok-holds.ensures refl (beq_same _ _ w.if-branch-want.true))
+      | quantify-then-all-test+in_ok-holds+then-branch-want w ↦ settled_as w.s-is (ap lent w.run-is) w.found-is (scans_hit c.all.invariant w.all-test.true w.in_ok-holds.ensures refl (beq_same _ _ w.if-branch-want.true))
     ] in
     c.put_boolean.ensures.outside.long ∙ joined.kept.long ∙ c.in_ok-cursor.ensures.kept.long
 
 pub quantify-returns : goal.quantify-returns
 quantify-returns t c =
-    let joined : Settled c.args.sheet.now c.args.r c.begin-cursor.new.s c.args.base (env_of c.args.env.now) c.args.want (lent c.begin-cursor.new.run) c.all-test.s (lent c.all-test.run) c.all-test.found = elim c.all-test.branch [
+    let joined : Settled c.args.sheet.now c.args.r c.begin.new.s c.args.base (env_of c.args.env.now) c.args.want (lent c.begin.new.run) c.all-test.s (lent c.all-test.run) c.all-test.found = elim c.all-test.branch [
       | quantify-else-all-test w ↦ settled_as w.s-is (ap lent w.run-is) w.found-is (scans_end c.all.invariant w.all-test.false)
-      | quantify-then-all-test+then-branch-want w ↦ settled_as w.s-is (ap lent w.run-is) w.found-is (scans_hit c.all.invariant w.all-test.true w.in_ok-holds.ensures refl (beq_same _ _ w.if-branch-want.true))
+      | quantify-then-all-test+in_ok-holds+then-branch-want w ↦ settled_as w.s-is (ap lent w.run-is) w.found-is (scans_hit c.all.invariant w.all-test.true w.in_ok-holds.ensures refl (beq_same _ _ w.if-branch-want.true))
     ] in
     quantify_done c.requires.0 c.args.want (c.requires.1 ∙ c.requires.2) (begins_as c.requires.2 c.in_ok-cursor.ensures) refl joined c.put_boolean.ensures
 
