@@ -1,17 +1,20 @@
 -- The line of the list that is due, from its run.
 use mathlib.Core.Path.{◌≡◌, refl, sym, ap, ap₂, ◌∙◌, subst}
 use mathlib.Core.Bool.{Bool, true, false}
-use mathlib.Core.List.{List, ◌++◌}
+use mathlib.Core.List.{List, [], ◌∷◌, ◌++◌}
 use Prim.Native.Nat.{ℕ, suc, ◌+◌, ◌-◌, ◌≤◌, ◌<◌}
 use native.Mathlib.Omega.{arith}
 use lib.ListN.{length, take, replicate, length-take}
 use lib.Seq.{take-append_seam}
 use Rattle.std.specs.Prelude.{Option}
+use Rattle.prelude.proofs.Absurd.{impossible}
 use Rattle.prelude.specs.declared.Refusal.{Refusal}
 use Rattle.prelude.specs.Refusals.{number_of}
 use Rattle.choices.specs.State.{Choices, Advanced, Invariant, Moved}
 use Rattle.choices.specs.declared.list.Walk.{Walk}
-use Rattle.choices.specs.Tree.{result, refuses, most_choices}
+use Rattle.choices.specs.Tree.{Tree, Numbered, Run, gave, stopped, short, beyond, run, result, refuses, final, most_choices}
+use Rattle.choices.specs.Lists.{Ended as IsEnded, Complete}
+use Rattle.choices.proofs.Walk.{stopped_number}
 use Rattle.choices.proofs.States.{Holds}
 use Rattle.lists.specs.Lent.{lent}
 use Rattle.lists.specs.Runs.{UsedWhole as Whole, SameList as Kept}
@@ -26,12 +29,25 @@ use Rattle.print.specs.Contract.{longest_line, Wrote, Answers, gave as answers_g
 use Rattle.printing.specs.declared.Progress.{Progress}
 use Rattle.printing.specs.Due.{list_at, Due, Behind}
 use Rattle.printing.specs.Rest.{from_list}
-use Rattle.printing.specs.Contract.{refusal_of, due, Ready, Lined}
-use Rattle.printing.proofs.Walking.{due_final, due_holds, due_behind}
+use Rattle.printing.specs.Contract.{refusal_of, Worded, due, Ready, Lined}
+use Rattle.printing.proofs.Walking.{complete_at, due_final, due_holds, due_behind}
 use Rattle.printing.proofs.Texts.{is_due, from_next, wrote_inside, wrote_beyond, wrote_next}
+
+-- A complete list's refusal is one of 20 to 31.
+pub refusal_number : {A : Type 0} (t : Tree A) (l : List ℕ) (last n p k : ℕ) → Numbered t → Complete t l → refuses n p k ≡ final last (run t l) → (20 ≤ n) × (n ≤ 31)
+refusal_number {A} t l last n p k m h e = go (run t l) refl h e
+  where
+    go : (r : Run A) → run t l ≡ r → IsEnded r → refuses n p k ≡ final last r → (20 ≤ n) × (n ≤ 31)
+    go (gave a j []) q h e = impossible cc
+    go (gave a j (c ∷ left)) q h e = impossible cc
+    go (stopped r s []) q h e = let d : n ≡ r = cc in let b = stopped_number t most_choices l r s [] m q in (omega (arith, b.0), omega (arith, b.1))
+    go (stopped r s (c ∷ left)) q h e = impossible cc
+    go (short s j) q h e = absurd h
+    go (beyond s j left) q h e = absurd h
 
 -- What the run of the k-th list tells: its answer, the list itself, and where the advance leads.
 pub record Told (table s run : List ℕ) (o : Ended) (k : ℕ) : Type 0 where
+  pub worded : Worded (refusal_of o)
   pub answers : Answers s (refusal_of o) (runs table (list_at (tree table) k))
   pub holds : Holds (lent run) (list_at (tree table) k)
   pub sound : Invariant (lent run)
@@ -41,18 +57,21 @@ module _ (table s run' : List ℕ) (o : Ended) (k : ℕ) (c : Choices) (d : Due 
   pub told : Comes (tree table) (At s 0) c (ended o (lent run')) → Told table s run' o k
   told (came_gave {a} e v h) =
       record {
+        worded = subst Worded (sym (ap refusal_of e)) tt;
         answers = answers_gave (ap refusal_of e) a (sym (due_final (tree table) k c d (result a) (lent run') h (last (sheet table)))) v;
         holds = due_holds (tree table) k c d (result a) (lent run') h;
         sound = h.sound;
         onward = λ r m. due_behind (tree table) k c d (result a) (lent run') h (sure_tree table).full r m;
       }
   told (came_off {x} e h) =
-      let final = refuses (number_of x.refusal) x.place x.count in
+      let answer = refuses (number_of x.refusal) x.place x.count in
+      let f = due_final (tree table) k c d answer (lent run') h (last (sheet table)) in
       record {
-        answers = answers_refused x.refusal (ap refusal_of e) x.place x.count (sym (due_final (tree table) k c d final (lent run') h (last (sheet table))));
-        holds = due_holds (tree table) k c d final (lent run') h;
+        worded = subst Worded (sym (ap refusal_of e)) (refusal_number (tree table) (list_at (tree table) k) (last (sheet table)) (number_of x.refusal) x.place x.count (sure_tree table).numbered (complete_at (tree table) k d.below) f);
+        answers = answers_refused x.refusal (ap refusal_of e) x.place x.count (sym f);
+        holds = due_holds (tree table) k c d answer (lent run') h;
         sound = h.sound;
-        onward = λ r m. due_behind (tree table) k c d final (lent run') h (sure_tree table).full r m;
+        onward = λ r m. due_behind (tree table) k c d answer (lent run') h (sure_tree table).full r m;
       }
 
 module _ (table s run : List ℕ) (o : Ended) (k : ℕ) (t : Told table s run o k) where

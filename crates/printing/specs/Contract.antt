@@ -3,6 +3,7 @@ use Rattle.std.specs.Prelude.{◌≡◌, Bool, true, false, ◌&&◌, cond, List
 use Rattle.meaning.specs.Service.{tree}
 use Rattle.lists.specs.Lent.{lent}
 use Rattle.prelude.specs.declared.Refusal.{Refusal}
+use Rattle.prelude.specs.Refusals.{number_of}
 use Rattle.evaluator.specs.Contract.{Ended}
 use Rattle.walks.specs.Steps.{Walkable}
 use Rattle.print.specs.Print.{most_lines, first_line, end_line, cut_line, print_of}
@@ -15,6 +16,11 @@ use Rattle.printing.specs.Rest.{from_list, to_come}
 abbrev pub refusal_of : Ended → Option Refusal
 refusal_of (Ok u) = None
 refusal_of (Err e) = Some e.refusal
+
+-- No line tells another refusal than 20 to 31, which have words.
+abbrev pub Worded : Option Refusal → Type 0
+Worded None = Unit {0}
+Worded (Some q) = (20 ≤ number_of q) × (number_of q ≤ 31)
 
 -- A line of a list comes next: there is a list more, and the limit is not reached.
 abbrev pub due : Progress → Bool

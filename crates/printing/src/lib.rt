@@ -4,7 +4,7 @@
 ghost use Rattle.std.specs.Prelude.{◌≡◌, true, false, ◌+◌, ◌≤◌, ◌<◌, length};
 ghost use Rattle.print.specs.Print.{most_lines};
 ghost use Rattle.print.specs.Contract.{short_line};
-ghost use Rattle.printing.specs.Contract.{Begun, refusal_of, due, Ready, Lined, Closed, Filled};
+ghost use Rattle.printing.specs.Contract.{Begun, refusal_of, Worded, due, Ready, Lined, Closed, Filled};
 
 use evaluator::{Refused, run_sheet};
 use lists::{Run, advance, list_of};
@@ -52,8 +52,9 @@ pub fn begin(count: usize, out: &mut [u8]) -> Progress
     }
 }
 
-// The refusal of an outcome, if it is one.
+// The refusal of a list's outcome, if it is one: one of 20 to 31.
 fn refusal_of(o: Result<(), Refused>) -> Option<Refusal>
+    requires { Worded (refusal_of o) }
     ensures { result ≡ refusal_of o }
 {
     match o {

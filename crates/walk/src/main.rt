@@ -79,7 +79,7 @@ fn print_refused<W: Write>(output: &mut W, table: &[u8], fault: Fault) -> Result
     ensures bytes { Arrived (W.contents output.old) (W.contents output.new) (print_of table.now) result }
 {
     let mut out = [0u8; SHORT_LINE];
-    let end = put_refused(fault, &mut out, 0);
+    let end = put_refused(fault.rule.number(), fault.place, &mut out, 0);
     hand_on(output, table, 0, &out[..end])
 }
 

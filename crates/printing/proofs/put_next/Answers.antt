@@ -19,6 +19,11 @@ slice_bounds-put_line-end c =
     let told_here = told c.args.sheet.now c.run_sheet-o.new.s c.run_sheet-o.new.run c.run_sheet-o.result c.args.p.lists (lent c.args.run.now) (ready_due c.args.sheet.now c.args.count c.args.s.now c.args.run.now c.args.out.now c.args.p c.requires.0 c.requires.1) c.run_sheet-o.ensures in
     sym (length-take-le c.list_of-list.result.len c.list_of-list.result.entries (list_inside c.args.sheet.now c.run_sheet-o.new.s c.run_sheet-o.new.run c.run_sheet-o.result c.args.p.lists told_here c.list_of-list.result c.list_of-list.ensures))
 
+pub refusal_of-requires : goal.refusal_of-requires
+refusal_of-requires c =
+    let told_here = told c.args.sheet.now c.run_sheet-o.new.s c.run_sheet-o.new.run c.run_sheet-o.result c.args.p.lists (lent c.args.run.now) (ready_due c.args.sheet.now c.args.count c.args.s.now c.args.run.now c.args.out.now c.args.p c.requires.0 c.requires.1) c.run_sheet-o.ensures in
+    told_here.worded
+
 pub put_line-at-requires : goal.put_line-at-requires
 put_line-at-requires c =
     let told_here = told c.args.sheet.now c.run_sheet-o.new.s c.run_sheet-o.new.run c.run_sheet-o.result c.args.p.lists (lent c.args.run.now) (ready_due c.args.sheet.now c.args.count c.args.s.now c.args.run.now c.args.out.now c.args.p c.requires.0 c.requires.1) c.run_sheet-o.ensures in

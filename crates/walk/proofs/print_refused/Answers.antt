@@ -13,20 +13,20 @@ room = omega (arith, length-replicate {A = ℕ} 64 0)
 
 pub slice_bounds-out-end : goal.slice_bounds-out-end
 slice_bounds-out-end g c =
-    refused_inside c.args.table.now c.args.fault c.requires (replicate 64 0) c.put_refused-end.new.out c.put_refused-end.result c.put_refused-end.ensures room
+    refused_inside c.args.table.now c.args.fault c.requires (replicate 64 0) c.put_refused-end.new.out c.put_refused-end.result (rw c.number.ensures at c.put_refused-end.ensures) room
 
 pub slice_bounds-hand_on-end : goal.slice_bounds-hand_on-end
 slice_bounds-hand_on-end g c =
-    sym (length-take-le c.put_refused-end.result c.put_refused-end.new.out (refused_inside c.args.table.now c.args.fault c.requires (replicate 64 0) c.put_refused-end.new.out c.put_refused-end.result c.put_refused-end.ensures room))
+    sym (length-take-le c.put_refused-end.result c.put_refused-end.new.out (refused_inside c.args.table.now c.args.fault c.requires (replicate 64 0) c.put_refused-end.new.out c.put_refused-end.result (rw c.number.ensures at c.put_refused-end.ensures) room))
 
 pub hand_on-requires : goal.hand_on-requires
 hand_on-requires g c =
-    refused_next c.args.table.now c.args.fault c.requires (replicate 64 0) c.put_refused-end.new.out c.put_refused-end.result c.put_refused-end.ensures room
+    refused_next c.args.table.now c.args.fault c.requires (replicate 64 0) c.put_refused-end.new.out c.put_refused-end.result (rw c.number.ensures at c.put_refused-end.ensures) room
 
 pub returns-clause-count : goal.returns-clause-count
 returns-clause-count g c =
-    refused_printed c.args.table.now c.args.fault c.requires (replicate 64 0) c.put_refused-end.new.out c.put_refused-end.result c.put_refused-end.ensures room c.hand_on.result c.hand_on.ensures.count
+    refused_printed c.args.table.now c.args.fault c.requires (replicate 64 0) c.put_refused-end.new.out c.put_refused-end.result (rw c.number.ensures at c.put_refused-end.ensures) room c.hand_on.result c.hand_on.ensures.count
 
 pub returns-clause-bytes : goal.returns-clause-bytes
 returns-clause-bytes g c =
-    refused_arrived c.args.table.now c.args.fault c.requires (replicate 64 0) c.put_refused-end.new.out c.put_refused-end.result c.put_refused-end.ensures room _ _ c.hand_on.result c.hand_on.ensures.bytes
+    refused_arrived c.args.table.now c.args.fault c.requires (replicate 64 0) c.put_refused-end.new.out c.put_refused-end.result (rw c.number.ensures at c.put_refused-end.ensures) room _ _ c.hand_on.result c.hand_on.ensures.bytes
