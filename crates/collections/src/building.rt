@@ -1,6 +1,7 @@
 // Collections that are built in a lent slice, one item after the other, each with room for the longest value.
 ghost use Rattle.std.specs.Prelude.{◌+◌, ◌≤◌, ◌<◌, length};
 ghost use Rattle.values.specs.Value.{set, sequence};
+ghost use Rattle.values.specs.Contract.{Moved};
 ghost use Rattle.collections.specs.Finding.{HoldsCollection};
 ghost use Rattle.collections.specs.Building.{Room, EntryRoom, Empties, Retags, Appends, Inserts, Enters};
 ghost use Rattle.collections.specs.Steps.{Gap, Fills, Slot, AddsAt, EntersAt};
@@ -8,13 +9,24 @@ ghost use Rattle.collections.specs.Steps.{Gap, Fills, Slot, AddsAt, EntersAt};
 use prelude::Refusal;
 use values::Value;
 
+// Moves n bytes up, over themselves too. Mostly there are none: an item goes to the end, and copying nothing takes as long as a short item does.
+fn shift_up(s: &mut [u8], at: usize, n: usize, by: usize)
+    requires { at + n + by ≤ length s.old }
+    ensures { Moved s.old s.new at (at + by) n }
+{
+    if n == 0 {
+        return;
+    }
+    values::copy_bytes(s, at, at + by, n);
+}
+
 // The item at x goes in before what stands from p to end.
 fn put_before(s: &mut [u8], p: usize, end: usize, x: usize)
     requires { Gap s.old p end x }
     ensures { Fills s.old s.new p end x }
 {
     let n = values::length_of(s, x);
-    values::copy_bytes(s, p, p + n, end - p);
+    shift_up(s, p, end - p, n);
     values::copy_value(s, x, p);
 }
 
