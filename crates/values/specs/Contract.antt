@@ -93,6 +93,10 @@ pub record Movable (s : List ℕ) (from to n : ℕ) : Type 0 where
   pub there : from + n ≤ length s
   pub room : to + n ≤ length s
 
+-- bytes are not copied up over themselves
+abbrev pub IsApart : ℕ → ℕ → ℕ → Type 0
+IsApart from to n = (from + n ≤ to) ⊎ (to ≤ from)
+
 -- t is s with the n bytes at `from` put at `to`
 pub record Moved (s t : List ℕ) (from to n : ℕ) : Type 0 where
   pub outside : Outside s t to (to + n)

@@ -5,7 +5,7 @@ ghost use Rattle.std.specs.Prelude.{◌+◌, ◌≤◌, ◌<◌, [], length};
 ghost use Rattle.integers.specs.Whole.{InRange};
 ghost use Rattle.values.specs.Value.{boolean, integer, quote};
 ghost use Rattle.values.specs.Place.{At, Holds, HoldsItems};
-ghost use Rattle.values.specs.Contract.{Length, KindAt, OfKind, Both, Numbered, NumberAt, Ordered, OrderedItems, AreEqual, Shows, ShowsAt, PutHead, Put, Movable, Moved, Copyable, Copied};
+ghost use Rattle.values.specs.Contract.{Length, KindAt, OfKind, Both, Numbered, NumberAt, Ordered, OrderedItems, AreEqual, Shows, ShowsAt, PutHead, Put, Movable, IsApart, Moved, Copyable, Copied};
 
 use std::cmp::Ordering;
 
@@ -243,12 +243,28 @@ pub fn put_quote(s: &mut [u8], at: usize, n: usize) -> usize
 
 // ---- copying
 
+// Copies n bytes, first to last: up past their end, or down, over themselves too. A short record is copied sooner so than by the library, which goes from
+// the last byte where it copies up.
+fn copy_apart(s: &mut [u8], from: usize, to: usize, n: usize)
+    requires { Movable s.old from to n × IsApart from to n }
+    ensures { Moved s.old s.new from to n }
+{
+    for i in 0..n {
+        s[to + i] = s[from + i];
+    }
+}
+
 // Copies n bytes, over themselves too.
-#[inline(never)]
 pub fn copy_bytes(s: &mut [u8], from: usize, to: usize, n: usize)
     requires { Movable s.old from to n }
     ensures { Moved s.old s.new from to n }
 {
+    if to <= from {
+        return copy_apart(s, from, to, n);
+    }
+    if from + n <= to {
+        return copy_apart(s, from, to, n);
+    }
     s.copy_within(from..from + n, to);
 }
 
@@ -258,6 +274,6 @@ pub fn copy_value(s: &mut [u8], from: usize, to: usize) -> usize
     ensures { Copied s.old s.new from to result }
 {
     let n = length_of(s, from);
-    copy_bytes(s, from, to, n);
+    copy_apart(s, from, to, n);
     to + n
 }
