@@ -3,6 +3,7 @@ pub mod Shown
 pub mod Built
 mod Seeking
 pub mod Additions
+mod Shifting
 mod Sights
 mod Entering
 mod Gaps

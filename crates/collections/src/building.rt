@@ -9,15 +9,15 @@ ghost use Rattle.collections.specs.Steps.{Gap, Fills, Slot, AddsAt, EntersAt};
 use prelude::Refusal;
 use values::Value;
 
-// Moves n bytes up, over themselves too. Mostly there are none: an item goes to the end, and copying nothing takes as long as a short item does.
+// Moves n bytes up, the last first, so that they may go over themselves. Mostly there are none: an item goes to the end, and a call of the library to move
+// nothing takes as long as a short item.
 fn shift_up(s: &mut [u8], at: usize, n: usize, by: usize)
     requires { at + n + by ≤ length s.old }
     ensures { Moved s.old s.new at (at + by) n }
 {
-    if n == 0 {
-        return;
+    for i in (0..n).rev() {
+        s[at + by + i] = s[at + i];
     }
-    values::copy_bytes(s, at, at + by, n);
 }
 
 // The item at x goes in before what stands from p to end.
