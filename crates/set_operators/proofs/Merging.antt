@@ -46,29 +46,6 @@ module _ {s : List ℕ} {a a' b b' : ℕ} where
       let y = uncons_of m k in
       q x.first y.first x.first-at y.first-at ∙ sym (ap₂ least_on x.is y.is)
 
--- ---- an integer copied as a number
-
--- y is z as the machine holds it
-module _ {s : List ℕ} {from : ℕ} {y z : ℤ} (e : y ≡ z) (i : At s from (integer z)) where
-  read : At s from (integer y)
-  read = subst (λ (x : ℤ). At s from (integer x)) (sym e) i
-
-  eight : word s from ≡ 8
-  unfolding size
-  eight = word_size read
-
-  pub integer_room : {to : ℕ} → Copyable s from to → (to + 8 ≤ length s) × InRange y
-  integer_room c = let n = eight in let room = c.room in (omega arith, integer_range read.fine)
-
-  pub integer_copied : {t : List ℕ} {to r : ℕ} → Put s t to (integer y) 8 r → Copied s t from to r
-  integer_copied {t} {to} {r} p =
-      record {
-        ends = p.ends ∙ ap (λ (n : ℕ). to + n) (sym eight);
-        outside = subst (Outside s t to) (sym p.ends) p.outside;
-        bytes = subst (λ (n : ℕ). take n (drop to t) ≡ take n (drop from s)) (sym (word_size read)) (p.here.bytes ∙ sym read.bytes);
-        here = λ v k. subst (At t to) (one_value read k) p.here;
-      }
-
 -- ---- where they stand
 
 pub members_same : {vs ws : Items} → collection set vs ≡ collection set ws → vs ≡ ws

@@ -99,18 +99,6 @@ fn in_order(o: Ordering, lower: usize, same: usize, higher: usize) -> usize
     }
 }
 
-// Copies the record at a place to another, and gives the place past it. An integer is copied without the general copy.
-fn copy_member(s: &mut [u8], from: usize, to: usize) -> usize
-    requires { Copyable s.old from to }
-    ensures { Copied s.old s.new from to result }
-{
-    if values::kind_of(s, from) == Value::INTEGER {
-        let z = values::integer_at(s, from);
-        return values::put_integer(s, to, z);
-    }
-    values::copy_value(s, from, to)
-}
-
 // Builds at a place the union of the sets at x and y, in one pass over both: each turn passes the least member left.
 pub fn merge(s: &mut [u8], x: usize, y: usize, at: usize) -> Result<(), Refusal>
     requires { Merge s.old x y at }
@@ -127,7 +115,7 @@ pub fn merge(s: &mut [u8], x: usize, y: usize, at: usize) -> Result<(), Refusal>
         if at + Value::LIMIT < p + values::length_of(s, least) {
             return Err(Refusal::TooLarge);
         }
-        let next = copy_member(s, least, p);
+        let next = values::copy_value(s, least, p);
         let n = next - p;
         let past_a = a + n;
         let past_b = b + n;

@@ -6,12 +6,17 @@ use Prim.Native.Nat.{ℕ, zero, suc, ◌+◌, ◌-◌, ◌<◌, ◌≤◌}
 use native.Mathlib.Numerals.{add-one}
 use native.Mathlib.Omega.{arith}
 use lib.ListN.{length, get_or, take, drop, set, length-take, length-drop, get_or-append}
+use lib.IntN.{ℤ}
 use lib.Seq.{paste, paste-zero, paste-suc, length-paste, drop-paste, get_or-take, get_or-drop, take_at, drop_at, length-take-le}
 use Rattle.std.specs.List.{copy_within}
-use Rattle.values.specs.Value.{size, encode, value_limit}
-use Rattle.values.specs.Contract.{Movable, IsApart, Moved, Copyable, Copied, Length, zeros, ShowsAt}
+use Rattle.integers.specs.Bytes.{word}
+use Rattle.integers.specs.Whole.{InRange}
+use Rattle.values.specs.Value.{integer, size, encode, value_limit}
+use Rattle.values.specs.Place.{At, Outside}
+use Rattle.values.specs.Contract.{Movable, IsApart, Moved, Put, Copyable, Copied, Length, zeros, ShowsAt}
 use Rattle.values.proofs.Frame.{moved}
 use Rattle.values.proofs.Encoding.{encode_length}
+use Rattle.values.proofs.Records.{integer_range, word_size, one_value}
 
 -- ---- within one list
 
@@ -144,6 +149,29 @@ copied {s} {t} {from} {to} {n} c l m =
           let w = l.right v a in
           moved to (omega arith) (subst (λ (k : ℕ). take k (drop to t) ≡ take k (drop from s)) w m.bytes) a;
     }
+
+-- ---- an integer copied as a number
+
+-- y is z as the machine holds it
+module _ {s : List ℕ} {from : ℕ} {y z : ℤ} (e : y ≡ z) (i : At s from (integer z)) where
+  held_number : At s from (integer y)
+  held_number = subst (λ (x : ℤ). At s from (integer x)) (sym e) i
+
+  eight : word s from ≡ 8
+  unfolding size
+  eight = word_size held_number
+
+  pub number_room : {to : ℕ} → Copyable s from to → (to + 8 ≤ length s) × InRange y
+  number_room c = let n = eight in let room = c.room in (omega arith, integer_range held_number.fine)
+
+  pub number_copied : {t : List ℕ} {to r : ℕ} → Put s t to (integer y) 8 r → Copied s t from to r
+  number_copied {t} {to} {r} p =
+      record {
+        ends = p.ends ∙ ap (λ (n : ℕ). to + n) (sym eight);
+        outside = subst (Outside s t to) (sym p.ends) p.outside;
+        bytes = subst (λ (n : ℕ). take n (drop to t) ≡ take n (drop from s)) (sym (word_size held_number)) (p.here.bytes ∙ sym held_number.bytes);
+        here = λ v k. subst (At t to) (one_value held_number k) p.here;
+      }
 
 -- ---- out of a list, into zeros
 

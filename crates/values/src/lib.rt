@@ -268,11 +268,15 @@ pub fn copy_bytes(s: &mut [u8], from: usize, to: usize, n: usize)
     s.copy_within(from..from + n, to);
 }
 
-// Copies the record at a place to another, and gives the place past it.
+// Copies the record at a place to another, and gives the place past it. An integer is copied as a number.
 pub fn copy_value(s: &mut [u8], from: usize, to: usize) -> usize
     requires { Copyable s.old from to }
     ensures { Copied s.old s.new from to result }
 {
+    if kind_of(s, from) == Value::INTEGER {
+        let z = integer_at(s, from);
+        return put_integer(s, to, z);
+    }
     let n = length_of(s, from);
     copy_apart(s, from, to, n);
     to + n

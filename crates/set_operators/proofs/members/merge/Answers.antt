@@ -24,20 +24,20 @@ pub returns-then-at-p : goal.returns-then-at-p
 returns-then-at-p c =
     merge_full c.loop-a.invariant (omega arith) c.least_side-side.ensures c.in_order-least.ensures c.length_of-in-loop-a.ensures.is c.if-at-p.true
 
-pub copy_member-next-requires : goal.copy_member-next-requires
-copy_member-next-requires c =
+pub copy_value-next-requires : goal.copy_value-next-requires
+copy_value-next-requires c =
     merge_copy c.loop-a.invariant (omega arith) c.least_side-side.ensures c.in_order-least.ensures c.length_of-in-loop-a.ensures.is c.if-at-p.false
 
 pub overflow_sub-n : goal.overflow_sub-n
-overflow_sub-n c = omega (arith, c.copy_member-next.ensures.ends)
+overflow_sub-n c = omega (arith, c.copy_value-next.ensures.ends)
 
 pub loop-a-smaller : goal.loop-a-smaller
 loop-a-smaller c =
-    merge_less c.loop-a.invariant (omega arith) c.least_side-side.ensures c.in_order-least.ensures (omega (arith, c.copy_member-next.ensures.ends)) c.in_order-a.ensures c.in_order-b.ensures
+    merge_less c.loop-a.invariant (omega arith) c.least_side-side.ensures c.in_order-least.ensures (omega (arith, c.copy_value-next.ensures.ends)) c.in_order-a.ensures c.in_order-b.ensures
 
 pub loop-a-preserved : goal.loop-a-preserved
 loop-a-preserved c =
-    merge_on c.loop-a.invariant (omega arith) c.least_side-side.ensures c.in_order-least.ensures c.length_of-in-loop-a.ensures.is c.if-at-p.false c.copy_member-next.ensures c.in_order-a.ensures c.in_order-b.ensures
+    merge_on c.loop-a.invariant (omega arith) c.least_side-side.ensures c.in_order-least.ensures c.length_of-in-loop-a.ensures.is c.if-at-p.false c.copy_value-next.ensures c.in_order-a.ensures c.in_order-b.ensures
 
 pub returns : goal.returns
 returns c = merge_close c.loop-a.invariant (omega arith) (omega arith) c.put_head.ensures
