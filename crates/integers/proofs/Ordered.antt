@@ -108,6 +108,14 @@ pub lt_z_lower : (a b : ℤ) → lt_z a b ≡ true → order_ℤ a b ≡ Less
 unfolding order_ℤ
 lt_z_lower a b e = rw e
 
+pub gt_z_higher : (a b : ℤ) → lt_z a b ≡ false → lt_z b a ≡ true → order_ℤ a b ≡ Greater
+unfolding order_ℤ
+gt_z_higher a b e f = rw (e, f)
+
+pub eq_z_same : (a b : ℤ) → lt_z a b ≡ false → lt_z b a ≡ false → order_ℤ a b ≡ Equal
+unfolding order_ℤ
+eq_z_same a b e f = rw (e, f)
+
 -- what the answers say
 lower_lt_z : (a b : ℤ) → order_ℤ a b ≡ Less → lt_z a b ≡ true
 unfolding order_ℤ

@@ -104,11 +104,17 @@ pub fn modulo(left: i32, right: i32) -> Result<i32, Refusal>
     Ok(floor_rest(left, right))
 }
 
-// The order of two integers.
+// The order of two integers, by two tests: what goes on by it in a loop is then foreseen, and need not wait for it to be reckoned.
 pub fn compare(left: i32, right: i32) -> Ordering
     ensures { result ≡ order_ℤ left right }
 {
-    left.cmp(&right)
+    if left < right {
+        return Ordering::Less;
+    }
+    if right < left {
+        return Ordering::Greater;
+    }
+    Ordering::Equal
 }
 
 // The order of two lengths, kinds or places.
